@@ -1,0 +1,1 @@
+// What a rule book means. The definitions stand in specs/; this crate holds no product code.

@@ -1,0 +1,3 @@
+pub mod Fault
+pub mod Rows
+pub mod Works

@@ -1,0 +1,14 @@
+// Rule books: the refusals, the questions that every make of book answers, the works book, the sound book and the check that fills it.
+mod books;
+mod faults;
+mod rows;
+mod tables;
+mod works;
+
+pub use books::Book;
+pub use faults::Fault;
+pub use rows::KeyRow;
+pub use rows::RuleRow;
+pub use tables::Table;
+pub use works::WorksBook;
+pub use works::WorksBookIsBook;
