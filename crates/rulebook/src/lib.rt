@@ -2,6 +2,7 @@
 mod books;
 mod faults;
 mod rows;
+mod sounds;
 mod tables;
 mod works;
 
@@ -9,6 +10,9 @@ pub use books::Book;
 pub use faults::Fault;
 pub use rows::KeyRow;
 pub use rows::RuleRow;
-pub use tables::Table;
+pub use rows::item_or;
+pub use rows::place_of;
+pub use sounds::SoundBook;
+pub use sounds::SoundBookIsBook;
 pub use works::WorksBook;
 pub use works::WorksBookIsBook;

@@ -1,0 +1,7 @@
+use mathlib.Core.Path.{refl}
+use Rattle.rulebook.specs.Tables.{meaning-of}
+use Rattle.rulebook.proofs.sounds.SoundBookIsBook.parts.Needs as need
+
+pub returns : need.returns
+unfolding meaning-of
+returns c = refl
