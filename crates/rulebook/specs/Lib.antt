@@ -1,4 +1,5 @@
 pub mod Fault
+pub mod Refusals
 pub mod Rows
 pub mod Tables
 pub mod Works

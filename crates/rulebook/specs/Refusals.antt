@@ -1,0 +1,53 @@
+-- Which question of the check is the first that is answered no.
+use mathlib.Core.List.{List}
+use mathlib.Core.Logic.{_⊎_}
+use Prim.Native.Nat.{ℕ, suc, _+_, _<_, _≤_}
+use mathlib.Core.Path.{_≡_}
+use lib.ListN.{length, getD}
+use Rattle.language.specs.Book.{Grammar, Meaning, Rule, rule, form}
+use Rattle.language.specs.Sound.{Part, Key, Numbered, CountsFit, RuleFits, FormFits}
+use Rattle.rulebook.specs.declared.faults.Fault.{Fault}
+use Rattle.rulebook.specs.declared.faults.Fault.the-variants.{Counts, LeftSide, EmptyRule, LongRule, UnknownSymbol, KeyForm}
+
+-- the symbol at place d of a right side is the first that is neither a part nor a key
+pub record SymbolRefused (g : Grammar) (w : Rule) (d : ℕ) : Type 0 where
+  pub inside : d < length (w .body)
+  pub before : (e : ℕ) → e < d → Part g (getD (w .body) e 0) ⊎ Key g (getD (w .body) e 0)
+  pub unknown : (Part g (getD (w .body) d 0) ⊎ Key g (getD (w .body) d 0)) → ⊥
+
+-- the refusal of that symbol
+pub data SymbolFault (g : Grammar) (r : ℕ) (w : Rule) : Fault → Type 0 where
+  unknown : (d : ℕ) → SymbolRefused g w d → SymbolFault g r w (UnknownSymbol r (d + 1))
+
+-- s begins with the right side of w, and each symbol there is a part or a key
+pub record SymbolsCopied (g : Grammar) (w : Rule) (s : List ℕ) : Type 0 where
+  pub same : (d : ℕ) → d < length (w .body) → getD s d 0 ≡ getD (w .body) d 0
+  pub known : (d : ℕ) → d < length (w .body) → Part g (getD (w .body) d 0) ⊎ Key g (getD (w .body) d 0)
+
+-- rule r, which is w, is refused
+pub data RuleRefused (g : Grammar) (r : ℕ) (w : Rule) : Fault → Type 0 where
+  left : (Part g (w .head) → ⊥) → RuleRefused g r w (LeftSide r)
+  empty : Part g (w .head) → length (w .body) ≡ 0 → RuleRefused g r w (EmptyRule r)
+  long : Part g (w .head) → 6 < length (w .body) → RuleRefused g r w (LongRule r)
+  symbol : {f : Fault} → Part g (w .head) → 1 ≤ length (w .body) → length (w .body) ≤ 6 → SymbolFault g r w f → RuleRefused g r w f
+
+-- rule r is the first that is refused
+pub record RulesRefused (g : Grammar) (f : Fault) : Type 0 where
+  pub at : ℕ
+  pub numbered : Numbered g at
+  pub before : (q : ℕ) → q < at → Numbered g q → RuleFits g (rule (g .rules) q)
+  pub refused : RuleRefused g at (rule (g .rules) at) f
+
+-- key c is the first whose kind and spelling do not go together
+pub record KeysRefused (m : Meaning) (f : Fault) : Type 0 where
+  pub at : ℕ
+  pub named : f ≡ KeyForm at
+  pub key : Key (m .grammar) at
+  pub before : (c : ℕ) → c < at → Key (m .grammar) c → FormFits (form (m .forms) c)
+  pub refused : FormFits (form (m .forms) at) → ⊥
+
+-- the counts, a rule or a key is refused, in that order
+pub data CopyRefused (m : Meaning) : Fault → Type 0 where
+  counts : (CountsFit (m .grammar) → ⊥) → CopyRefused m Counts
+  rules : {f : Fault} → CountsFit (m .grammar) → RulesRefused (m .grammar) f → CopyRefused m f
+  keys : {f : Fault} → CountsFit (m .grammar) → ((r : ℕ) → Numbered (m .grammar) r → RuleFits (m .grammar) (rule (m .grammar .rules) r)) → KeysRefused m f → CopyRefused m f
