@@ -1,3 +1,4 @@
+pub mod Copies
 pub mod Fault
 pub mod Refusals
 pub mod Rows

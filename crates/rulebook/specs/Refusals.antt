@@ -1,5 +1,4 @@
 -- Which question of the check is the first that is answered no.
-use mathlib.Core.List.{List}
 use mathlib.Core.Logic.{_⊎_}
 use Prim.Native.Nat.{ℕ, suc, _+_, _<_, _≤_}
 use mathlib.Core.Path.{_≡_}
@@ -18,11 +17,6 @@ pub record SymbolRefused (g : Grammar) (w : Rule) (d : ℕ) : Type 0 where
 -- the refusal of that symbol
 pub data SymbolFault (g : Grammar) (r : ℕ) (w : Rule) : Fault → Type 0 where
   unknown : (d : ℕ) → SymbolRefused g w d → SymbolFault g r w (UnknownSymbol r (d + 1))
-
--- s begins with the right side of w, and each symbol there is a part or a key
-pub record SymbolsCopied (g : Grammar) (w : Rule) (s : List ℕ) : Type 0 where
-  pub same : (d : ℕ) → d < length (w .body) → getD s d 0 ≡ getD (w .body) d 0
-  pub known : (d : ℕ) → d < length (w .body) → Part g (getD (w .body) d 0) ⊎ Key g (getD (w .body) d 0)
 
 -- rule r, which is w, is refused
 pub data RuleRefused (g : Grammar) (r : ℕ) (w : Rule) : Fault → Type 0 where

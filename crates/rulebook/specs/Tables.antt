@@ -2,7 +2,7 @@
 use mathlib.Core.Path.{_≡_}
 use Prim.Native.Nat.{ℕ}
 use lib.ListN.{length, getD}
-use Rattle.language.specs.Book.{Grammar, Meaning, told}
+use Rattle.language.specs.Book.{Meaning, told}
 use Rattle.rulebook.specs.Rows.{rule-of, form-of, blank-rule, blank-key}
 use Rattle.rulebook.specs.declared.tables.Counts.{Counts}
 use Rattle.rulebook.specs.declared.tables.Table.{Table}
@@ -11,9 +11,10 @@ unfoldable pub meaning-of : Table → Meaning
 meaning-of t =
     told (t .counts .parts) (t .counts .keys) (t .counts .start) (t .counts .rules) (λ i. rule-of (getD (t .rules) i blank-rule)) (λ i. form-of (getD (t .keys) i blank-key))
 
--- these are the counts of the grammar
-pub record Counted (g : Grammar) (c : Counts) : Type 0 where
-  pub parts : c .parts ≡ g .parts
-  pub keys : c .keys ≡ g .keys
-  pub start : c .start ≡ g .start
-  pub rules : c .rules ≡ length (g .rules)
+-- these are the counts of the book
+pub record Counted (m : Meaning) (c : Counts) : Type 0 where
+  pub parts : c .parts ≡ m .grammar .parts
+  pub keys : c .keys ≡ m .grammar .keys
+  pub forms : c .keys ≡ length (m .forms)
+  pub start : c .start ≡ m .grammar .start
+  pub rules : c .rules ≡ length (m .grammar .rules)

@@ -30,4 +30,4 @@ returns g c =
     let copied = c .in-Continue-symbols .ensures tt in
     let same = row-is _ _ (record { left = c .left-left .result; size = c .size-size .result; symbols = c .in-Continue-symbols .symbols }) (c .left-left .ensures) (c .size-size .ensures) copied in
     let part = is-part (c .pre) (c .within .ensures) (c .if-not-within .left) (c .left-left .ensures) in
-    (same, subst (RuleFits _) (sym same) (row-fits _ _ _ part (omega (arith, c .size-size .ensures)) (omega (arith, c .size-size .ensures)) copied))
+    (same, subst (RuleFits _) (sym same) (row-fits _ _ _ _ part (c .size-size .ensures) (omega arith) (omega arith) copied))
