@@ -1,2 +1,4 @@
 pub mod Book
+pub mod Closure
+pub mod Masks
 pub mod Sound

@@ -73,7 +73,7 @@ fn symbols_of<B: Book>(book: &B, rule: u16, size: u16, counts: &Counts) -> Resul
 // A rule, if it turns a part into 1 to 6 symbols of the book.
 fn rule_of<B: Book>(book: &B, rule: u16, counts: &Counts) -> Result<RuleRow, Fault>
     requires { ⌜ Counted (meaning (now book)) (now counts) ⌝ }
-    ensures { λ r. ⌜ Cases r (λ w. (rule-of w ≡ rule-in (meaning (now (book .entry)) .grammar .rules) rule) × RuleFits (meaning (now (book .entry)) .grammar) (rule-of w)) (λ f. RuleRefused (meaning (now (book .entry)) .grammar) rule (rule-in (meaning (now (book .entry)) .grammar .rules) rule) f) ⌝ }
+    ensures { λ r. ⌜ Cases r (λ w. (rule-of w ≡ rule-in (meaning (now (book .entry)) .grammar .rules) rule) × RuleFits (meaning (now (book .entry)) .grammar) (rule-in (meaning (now (book .entry)) .grammar .rules) rule)) (λ f. RuleRefused (meaning (now (book .entry)) .grammar) rule (rule-in (meaning (now (book .entry)) .grammar .rules) rule) f) ⌝ }
 {
     let number = rule as usize;
     let left = book.left(rule);
@@ -142,7 +142,7 @@ fn length_fits(kind: u16, len: u16) -> bool
 
 // The form of a key, if its kind and its spelling go together.
 fn key_of<B: Book>(book: &B, key: u16) -> Option<KeyRow>
-    ensures { λ r. ⌜ BySome r (FormFits (form-in (meaning (now (book .entry)) .forms) key) → ⊥) (λ w. (form-of w ≡ form-in (meaning (now (book .entry)) .forms) key) × FormFits (form-of w)) ⌝ }
+    ensures { λ r. ⌜ BySome r (FormFits (form-in (meaning (now (book .entry)) .forms) key) → ⊥) (λ w. (form-of w ≡ form-in (meaning (now (book .entry)) .forms) key) × FormFits (form-in (meaning (now (book .entry)) .forms) key)) ⌝ }
 {
     let kind = book.kind(key);
     let len = book.spelling_len(key);

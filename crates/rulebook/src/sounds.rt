@@ -2,12 +2,8 @@
 ghost use Rattle.language.specs.Sound.{WellFormed};
 ghost use Rattle.rulebook.specs.Tables.{meaning-of};
 use super::books::Book;
-use super::rows::KeyRow;
-use super::rows::RuleRow;
-use super::rows::key_row;
-use super::rows::rule_row;
-use super::tables::Counts;
 use super::tables::Table;
+use super::tables::TableIsBook;
 
 // Every value of this type is a book that passed the check, or the smallest book.
 #[derive(Clone, Copy)]
@@ -20,42 +16,42 @@ pub impl Book for SoundBook as SoundBookIsBook {
     ghost meaning = { λ s. meaning-of (s .table) };
 
     fn parts(&self) -> u16 {
-        self.table.counts.parts
+        self.table.parts()
     }
 
     fn keys(&self) -> u16 {
-        self.table.counts.keys
+        self.table.keys()
     }
 
     fn start(&self) -> u16 {
-        self.table.counts.start
+        self.table.start()
     }
 
     fn rules(&self) -> u16 {
-        self.table.counts.rules
+        self.table.rules()
     }
 
     fn left(&self, rule: u16) -> u16 {
-        rule_row(&self.table.rules, self.table.counts.rules, rule).left
+        self.table.left(rule)
     }
 
     fn size(&self, rule: u16) -> u16 {
-        rule_row(&self.table.rules, self.table.counts.rules, rule).size
+        self.table.size(rule)
     }
 
     fn symbol(&self, rule: u16, at: u16) -> u16 {
-        rule_row(&self.table.rules, self.table.counts.rules, rule).symbol(at)
+        self.table.symbol(rule, at)
     }
 
     fn kind(&self, key: u16) -> u16 {
-        key_row(&self.table.keys, self.table.counts.keys, key).kind
+        self.table.kind(key)
     }
 
     fn spelling_len(&self, key: u16) -> u16 {
-        key_row(&self.table.keys, self.table.counts.keys, key).len
+        self.table.spelling_len(key)
     }
 
     fn spelling_byte(&self, key: u16, at: u16) -> u8 {
-        key_row(&self.table.keys, self.table.counts.keys, key).byte(at)
+        self.table.spelling_byte(key, at)
     }
 }

@@ -1,6 +1,4 @@
-use mathlib.Core.Path.{sym, subst}
 use Rattle.std.proofs.shelf.Ways.{not-from-decides}
-use Rattle.language.specs.Sound.{FormFits}
 use Rattle.rulebook.proofs.Copying.{length-unfit, letters-unfit, form-is, form-fits}
 use Rattle.rulebook.proofs.copies.key_of.Needs as need
 
@@ -14,4 +12,4 @@ pub returns : need.returns
 returns g c =
     let copied = c .in-Continue-bytes .ensures tt in
     let same = form-is _ _ (record { kind = c .kind-kind .result; len = c .spelling-len-len .result; bytes = c .in-Continue-bytes .bytes }) (c .kind-kind .ensures) (c .spelling-len-len .ensures) copied in
-    (same, subst FormFits (sym same) (form-fits _ _ _ _ _ (c .kind-kind .ensures) (c .spelling-len-len .ensures) (c .length-fits .ensures .0 (c .if-not-length-fits .left)) copied))
+    (same, form-fits _ _ _ _ _ (c .kind-kind .ensures) (c .spelling-len-len .ensures) (c .length-fits .ensures .0 (c .if-not-length-fits .left)) copied)

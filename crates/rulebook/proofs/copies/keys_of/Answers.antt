@@ -1,7 +1,6 @@
-use mathlib.Core.Path.{subst, _∙_}
+use mathlib.Core.Path.{_∙_}
 use native.Mathlib.Omega.{arith}
 use Rattle.std.proofs.shelf.Lists.{length-set}
-use Rattle.language.specs.Sound.{FormFits}
 use Rattle.rulebook.proofs.Copying.{copied-more, keys-refused}
 use Rattle.rulebook.proofs.copies.keys_of.Needs as need
 
@@ -13,5 +12,5 @@ loop-place-again g c =
     let row = c .in-Some .ensures tt in
     (
       length-set (c .loop-place .rows) (c .loop-place .place) (c .in-Some .row) ∙ c .loop-place .inv .0,
-      copied-more _ _ _ _ _ _ _ (c .loop-place .inv .1) (omega (arith, c .loop-place .inv .0)) (row .0) (subst FormFits (row .0) (row .1)),
+      copied-more _ _ _ _ _ _ _ (c .loop-place .inv .1) (omega (arith, c .loop-place .inv .0)) (row .0) (row .1),
     )

@@ -1,8 +1,7 @@
-use mathlib.Core.Path.{sym, subst, _∙_}
+use mathlib.Core.Path.{sym, _∙_}
 use native.Mathlib.Omega.{arith}
 use Rattle.std.proofs.shelf.Results.{err-from-errBy}
 use Rattle.language.specs.Book.{left, size, right}
-use Rattle.language.specs.Sound.{Part, RuleFits}
 use Rattle.rulebook.specs.Refusals.{RuleRefused}
 use Rattle.rulebook.proofs.Copying.{not-part, is-part, row-is, row-fits}
 use Rattle.rulebook.proofs.copies.rule_of.Needs as need
@@ -30,4 +29,4 @@ returns g c =
     let copied = c .in-Continue-symbols .ensures tt in
     let same = row-is _ _ (record { left = c .left-left .result; size = c .size-size .result; symbols = c .in-Continue-symbols .symbols }) (c .left-left .ensures) (c .size-size .ensures) copied in
     let part = is-part (c .pre) (c .within .ensures) (c .if-not-within .left) (c .left-left .ensures) in
-    (same, subst (RuleFits _) (sym same) (row-fits _ _ _ _ part (c .size-size .ensures) (omega arith) (omega arith) copied))
+    (same, row-fits _ _ _ _ part (c .size-size .ensures) (omega arith) (omega arith) copied)

@@ -1,8 +1,7 @@
-use mathlib.Core.Path.{sym, subst, _∙_}
+use mathlib.Core.Path.{_∙_}
 use native.Mathlib.Omega.{arith}
 use Rattle.std.proofs.shelf.Lists.{length-set}
 use Rattle.std.proofs.shelf.Results.{err-from-errBy}
-use Rattle.language.specs.Sound.{RuleFits}
 use Rattle.rulebook.proofs.Copying.{copied-more, rules-refused}
 use Rattle.rulebook.proofs.copies.rules_of.Needs as need
 
@@ -16,5 +15,5 @@ loop-place-again g c =
     let row = c .in-Continue-rows .ensures tt in
     (
       length-set (c .loop-place .rows) (c .loop-place .place) (c .in-Continue-rows .field-0) ∙ c .loop-place .inv .0,
-      copied-more _ _ _ _ _ _ _ (c .loop-place .inv .1) (omega (arith, c .loop-place .inv .0)) (row .0) (subst (RuleFits _) (row .0) (row .1)),
+      copied-more _ _ _ _ _ _ _ (c .loop-place .inv .1) (omega (arith, c .loop-place .inv .0)) (row .0) (row .1),
     )

@@ -1,6 +1,6 @@
 use mathlib.Core.Path.{refl}
 use Rattle.rulebook.specs.Tables.{meaning-of}
-use Rattle.rulebook.proofs.sounds.SoundBookIsBook.start.Needs as need
+use Rattle.rulebook.proofs.tables.TableIsBook.start.Needs as need
 
 pub returns : need.returns
 unfolding meaning-of

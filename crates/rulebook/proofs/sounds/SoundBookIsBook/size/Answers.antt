@@ -1,7 +1,0 @@
-use Rattle.rulebook.specs.Tables.{meaning-of}
-use Rattle.rulebook.proofs.Answered.{row-size}
-use Rattle.rulebook.proofs.sounds.SoundBookIsBook.size.Needs as need
-
-pub returns : need.returns
-unfolding meaning-of
-returns c = row-size (meaning-of (c .args .self .now .table) .grammar) (c .args .rule) (c .rule-row .result) (c .rule-row .ensures)
