@@ -1,3 +1,4 @@
 pub mod Answered
 pub mod Copying
+pub mod Growing
 pub mod Holding

@@ -1,3 +1,4 @@
+pub mod Closures
 pub mod Copies
 pub mod Fault
 pub mod Refusals

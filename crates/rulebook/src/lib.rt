@@ -1,5 +1,6 @@
 // Rule books: the refusals, the questions that every make of book answers, the works book, the sound book and the check that fills it.
 mod books;
+mod closures;
 mod copies;
 mod faults;
 mod rows;

@@ -2,6 +2,7 @@
 ghost use mathlib.Core.Path.{_≡_};
 ghost use mathlib.Core.Bool.{false, _||_};
 ghost use Prim.Native.Nat.{ℕ, _≤_};
+ghost use lib.Dec.{eqb};
 ghost use Rattle.rulebook.specs.Sets.{has, is-symbol};
 use super::rows::place_of;
 
@@ -25,6 +26,12 @@ impl SymbolSet {
             Some(place) => (self.mask >> place) % 2 == 1,
             None => false,
         }
+    }
+
+    pub fn same(&self, other: &SymbolSet) -> bool
+        ensures { λ r. ⌜ r ≡ eqb (now (self .entry) .mask) (now (other .entry) .mask) ⌝ }
+    {
+        self.mask == other.mask
     }
 
     // The set with one symbol more; a number that is no symbol leaves it.
