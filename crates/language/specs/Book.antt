@@ -4,7 +4,7 @@
 -- Rules are numbered from 1; the places of a right side count from 0.
 use mathlib.Core.Bool.{cond}
 use mathlib.Core.List.{List, [], _∷_, map}
-use Prim.Native.Nat.{ℕ, _+_, _-_}
+use Prim.Native.Nat.{ℕ, _+_, _-_, _≤_}
 use lib.Dec.{leb}
 use lib.ListN.{length, getD}
 use Rattle.std.specs.Iters.{counting}
@@ -30,6 +30,21 @@ pub record KeyForm : Type 0 where
 pub record Meaning : Type 0 where
   pub grammar : Grammar
   pub forms : List KeyForm
+
+-- symbol c is a part
+pub record Part (g : Grammar) (c : ℕ) : Type 0 where
+  pub low : 1 ≤ c
+  pub high : c ≤ g .parts
+
+-- symbol c is a key
+pub record Key (g : Grammar) (c : ℕ) : Type 0 where
+  pub low : 33 ≤ c
+  pub high : c ≤ 32 + g .keys
+
+-- there is a rule r
+pub record Numbered (g : Grammar) (r : ℕ) : Type 0 where
+  pub low : 1 ≤ r
+  pub high : r ≤ length (g .rules)
 
 -- what a question outside the book is answered from
 abbrev pub norule : Rule

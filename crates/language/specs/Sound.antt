@@ -1,25 +1,11 @@
--- Which books are well formed.
+-- Which books are sound.
 use mathlib.Core.Path.{_≡_}
 use mathlib.Core.Logic.{_⊎_}
 use mathlib.Core.List.{List}
 use Prim.Native.Nat.{ℕ, _+_, _<_, _≤_}
 use lib.ListN.{length, getD}
-use Rattle.language.specs.Book.{Rule, Grammar, KeyForm, Meaning, rule, form}
-
--- symbol c is a part
-pub record Part (g : Grammar) (c : ℕ) : Type 0 where
-  pub low : 1 ≤ c
-  pub high : c ≤ g .parts
-
--- symbol c is a key
-pub record Key (g : Grammar) (c : ℕ) : Type 0 where
-  pub low : 33 ≤ c
-  pub high : c ≤ 32 + g .keys
-
--- there is a rule r
-pub record Numbered (g : Grammar) (r : ℕ) : Type 0 where
-  pub low : 1 ≤ r
-  pub high : r ≤ length (g .rules)
+use Rattle.language.specs.Book.{Rule, Grammar, KeyForm, Meaning, Part, Key, Numbered, rule, form}
+use Rattle.language.specs.Closure.{Productive, UnitPath}
 
 -- the counts of a book are in bounds
 pub record CountsFit (g : Grammar) : Type 0 where
@@ -60,3 +46,9 @@ pub record WellFormed (m : Meaning) : Type 0 where
   pub counts : CountsFit (m .grammar)
   pub rules : (r : ℕ) → Numbered (m .grammar) r → RuleFits (m .grammar) (rule (m .grammar .rules) r)
   pub keys : (c : ℕ) → Key (m .grammar) c → FormFits (form (m .forms) c)
+
+-- the whole of what the check asks: well formed, every part can be turned into keys alone, and none into itself alone
+pub record Sound (m : Meaning) : Type 0 where
+  pub formed : WellFormed m
+  pub productive : (X : ℕ) → Part (m .grammar) X → Productive (m .grammar) X
+  pub acyclic : (X : ℕ) → Part (m .grammar) X → UnitPath (m .grammar) X X → ⊥

@@ -14,8 +14,8 @@ use Rattle.std.proofs.shelf.Counted.{length-map-counting}
 use Rattle.std.proofs.shelf.Lists.{getD-set-same, getD-set-other, ext-getD}
 use Rattle.std.proofs.shelf.Tests.{cond-true, le-leb}
 use Rattle.std.proofs.shelf.Ways.{not-from-decides}
-use Rattle.language.specs.Book.{Grammar, Meaning, KeyForm as Form, norule, noform, rule, left, right, size, form, kind, spelling}
-use Rattle.language.specs.Sound.{Part, Key, Numbered, RuleFits, Letter, Lettered, FormFits}
+use Rattle.language.specs.Book.{Grammar, Meaning, KeyForm as Form, norule, noform, rule, left, right, size, form, kind, spelling, Part, Key, Numbered}
+use Rattle.language.specs.Sound.{RuleFits, Letter, Lettered, FormFits}
 use Rattle.language.proofs.Told.{place-inside}
 use Rattle.rulebook.specs.Copies.{Copied, SymbolsCopied, LettersCopied, RulesCopied, KeysCopied, LengthFits}
 use Rattle.rulebook.specs.Refusals.{RuleRefused, RulesRefused, KeysRefused}

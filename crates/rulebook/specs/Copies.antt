@@ -4,8 +4,8 @@ use mathlib.Core.Logic.{_⊎_}
 use mathlib.Core.Path.{_≡_}
 use Prim.Native.Nat.{ℕ, _+_, _<_, _≤_}
 use lib.ListN.{length, getD}
-use Rattle.language.specs.Book.{Grammar, Meaning, Rule, KeyForm, rule, form}
-use Rattle.language.specs.Sound.{Part, Key, RuleFits, Letter, FormFits}
+use Rattle.language.specs.Book.{Grammar, Meaning, Rule, KeyForm, rule, form, Part, Key}
+use Rattle.language.specs.Sound.{RuleFits, Letter, FormFits}
 use Rattle.rulebook.specs.Rows.{rule-of, form-of, blank-rule, blank-key}
 use Rattle.rulebook.specs.declared.rows.RuleRow.{RuleRow}
 use Rattle.rulebook.specs.declared.rows.KeyRow.{KeyRow}

@@ -3,8 +3,8 @@ use mathlib.Core.Logic.{_⊎_}
 use Prim.Native.Nat.{ℕ, suc, _+_, _<_, _≤_}
 use mathlib.Core.Path.{_≡_}
 use lib.ListN.{length, getD}
-use Rattle.language.specs.Book.{Grammar, Meaning, Rule, rule, form}
-use Rattle.language.specs.Sound.{Part, Key, Numbered, CountsFit, RuleFits, FormFits}
+use Rattle.language.specs.Book.{Grammar, Meaning, Rule, rule, form, Part, Key, Numbered}
+use Rattle.language.specs.Sound.{CountsFit, RuleFits, FormFits}
 use Rattle.rulebook.specs.declared.faults.Fault.{Fault}
 use Rattle.rulebook.specs.declared.faults.Fault.the-variants.{Counts, LeftSide, EmptyRule, LongRule, UnknownSymbol, KeyForm}
 
@@ -45,3 +45,9 @@ pub data CopyRefused (m : Meaning) : Fault → Type 0 where
   counts : (CountsFit (m .grammar) → ⊥) → CopyRefused m Counts
   rules : {f : Fault} → CountsFit (m .grammar) → RulesRefused (m .grammar) f → CopyRefused m f
   keys : {f : Fault} → CountsFit (m .grammar) → ((r : ℕ) → Numbered (m .grammar) r → RuleFits (m .grammar) (rule (m .grammar .rules) r)) → KeysRefused m f → CopyRefused m f
+
+-- p is the lowest part of which P does not hold
+pub record Lowest (g : Grammar) (P : ℕ → Type 0) (p : ℕ) : Type 0 where
+  pub part : Part g p
+  pub before : (q : ℕ) → q < p → Part g q → P q
+  pub fails : P p → ⊥

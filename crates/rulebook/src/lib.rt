@@ -2,6 +2,7 @@
 mod books;
 mod closures;
 mod copies;
+mod derivations;
 mod faults;
 mod rows;
 mod sets;
