@@ -59,3 +59,29 @@ keys-more s t n few h with c = (
     (λ l. let last : 33 + n ≡ c = omega arith in subst (λ x. has t x ≡ true) last (with-adds s t (33 + n) with (symbol-fits (33 + n) (omega arith) (omega arith))))
     (cases-lt c (33 + n)),
 )
+
+-- one rule of length 1 more
+pub unit-more : (g : Grammar) (X r : ℕ) (s : SymbolSet) → Numbered g r → UnitFrom g X r (has s) → ((c : ℕ) → has s c ≡ true → UnitPath g X c) → UnitPath g X (symbol g r 0)
+unit-more g X r s n from all = ⊎-elim (λ e. UnitPath.one r n (from .0) e) (λ h. UnitPath.more r n (from .0) (all (left g r) h)) (from .1)
+
+-- a symbol of a well-formed book is one that a set can hold
+pub symbol-known : (m : Meaning) (r d : ℕ) → WellFormed m → Numbered (m .grammar) r → d < size (m .grammar) r → symbolic (symbol (m .grammar) r d) ≡ true
+unfolding size symbol right
+symbol-known m r d h n l =
+    ⊎-elim
+    (λ p. symbol-fits (symbol (m .grammar) r d) (p .low) (omega (arith, p .high, h .counts .few-parts)))
+    (λ k. symbol-fits (symbol (m .grammar) r d) (omega (arith, k .low)) (omega (arith, k .high, h .counts .few-keys)))
+    (h .rules r n .symbols d l)
+
+-- a closed set that grew from nothing is the set of what X is turned into alone
+module _ (m : Meaning) (formed : WellFormed m) (X : ℕ) (s : SymbolSet) (closed : (i : ℕ) → 1 ≤ i → i ≤ length (m .grammar .rules) → Closed (UnitFrom (m .grammar) X i) (symbol (m .grammar) i 0) s s) where
+  unit-in : (Y : ℕ) → UnitPath (m .grammar) X Y → has s Y ≡ true
+  unit-in Y (UnitPath.one r n one e) = closed r (n .low) (n .high) (omega arith) (one, inl e) (symbol-known m r 0 formed n (omega arith))
+  unit-in Y (UnitPath.more r n one path) = closed r (n .low) (n .high) (omega arith) (one, inr (unit-in (left (m .grammar) r) path)) (symbol-known m r 0 formed n (omega arith))
+
+  pub unit-set : (first : SymbolSet) → ((c : ℕ) → has first c ≡ false) → Grown (UnitPath (m .grammar) X) first s → Exactly (UnitPath (m .grammar) X) s
+  unit-set first none grown = record { sound = grown .sound (λ c h. absurd (both-ways (has first c) (none c) h)); whole = unit-in }
+
+-- what holds of the numbers from 1 to n, and of the next
+pub up-to-more : (P : ℕ → Type 0) (n : ℕ) → ((q : ℕ) → 1 ≤ q → q ≤ n → P q) → P (n + 1) → (q : ℕ) → 1 ≤ q → q ≤ n + 1 → P q
+up-to-more P n below here q low high = ⊎-elim (λ l. below q low (omega arith)) (λ l. let last : n + 1 ≡ q = omega arith in subst P last here) (cases-lt q (n + 1))

@@ -87,6 +87,14 @@ pub fn unproductive(table: &Table) -> Option<u16>
     None
 }
 
+// Whether a rule has length 1 and its left part is a given one or in a set.
+fn unit_from(table: &Table, from: u16, rule: u16, set: &SymbolSet) -> bool
+    ensures { λ r. ⌜ Decides r (UnitFrom (meaning-of (now (table .entry)) .grammar) from rule (has (now (set .entry)))) ⌝ }
+{
+    let left = table.left(rule);
+    table.size(rule) == 1 && (left == from || set.contains(left))
+}
+
 // A rule of length 1 adds its symbol where its left part is the one asked about, or was added.
 #[derive(Clone, Copy)]
 struct UnitRules<'b> {
@@ -108,8 +116,7 @@ impl Growth for UnitRules<'_> as UnitRulesGrow {
     }
 
     fn step(&self, rule: u16, set: &SymbolSet) -> SymbolSet {
-        let left = self.table.left(rule);
-        if self.table.size(rule) == 1 && (left == self.from || set.contains(left)) {
+        if unit_from(self.table, self.from, rule, set) {
             set.with(self.table.symbol(rule, 0))
         } else {
             *set
