@@ -71,9 +71,9 @@ module _ {X Y : Type 0} (read : X → Y) (blank : X) (want : ℕ → Y) (Fits : 
   copied-more n rows x h inside is fits =
       record {
         same =
-          below-more _ _
-          (λ i l. let other : i ≢ n = omega arith in ap read (getD-set-other rows n i x blank other) ∙ h .same i l)
-          (ap read (getD-set-same rows n x blank inside) ∙ is);
+            below-more _ _
+            (λ i l. let other : i ≢ n = omega arith in ap read (getD-set-other rows n i x blank other) ∙ h .same i l)
+            (ap read (getD-set-same rows n x blank inside) ∙ is);
         fits = below-more _ _ (h .fits) fits;
       }
 
@@ -83,8 +83,8 @@ unfolding left size right
 row-is g r w l z h =
     let long = length-map-counting (λ j. getD (w .symbols) j 0) 0 (w .size) in
     let same =
-        ext-getD 0 (rule-of w .body) (rule (g .rules) r .body) (long ∙ z)
-        (λ i lt. place-inside (λ j. getD (w .symbols) j 0) (w .size) i 0 (omega (arith, long)) ∙ h .same i (omega (arith, long))) in
+    ext-getD 0 (rule-of w .body) (rule (g .rules) r .body) (long ∙ z)
+    (λ i lt. place-inside (λ j. getD (w .symbols) j 0) (w .size) i 0 (omega (arith, long)) ∙ h .same i (omega (arith, long))) in
     λ i. record { head = l i; body = same i }
 
 -- and it fits where its left side is a part and its length is from 1 to 6
@@ -115,8 +115,8 @@ unfolding kind spelling
 form-is m c w k n h =
     let long = length-map-counting (λ j. getD (w .bytes) j 0) 0 (w .len) in
     let same =
-        ext-getD 0 (form-of w .spelling) (form (m .forms) c .spelling) (long ∙ n)
-        (λ i lt. place-inside (λ j. getD (w .bytes) j 0) (w .len) i 0 (omega (arith, long)) ∙ h .same i (omega (arith, long))) in
+    ext-getD 0 (form-of w .spelling) (form (m .forms) c .spelling) (long ∙ n)
+    (λ i lt. place-inside (λ j. getD (w .bytes) j 0) (w .len) i 0 (omega (arith, long)) ∙ h .same i (omega (arith, long))) in
     λ i. record { kind = k i; spelling = same i }
 
 -- and it fits where its length goes with its kind
@@ -124,7 +124,7 @@ pub form-fits : (m : Meaning) (c k n : ℕ) (bs : List ℕ) → k ≡ kind m c �
 unfolding kind spelling
 form-fits m c k n bs kk nn fit h =
     let lettered : (least : ℕ) → least ≤ n → n ≤ 24 → Lettered least (form (m .forms) c .spelling) =
-        λ least low high. record { low = omega arith; high = omega arith; letters = λ i l. h .fits i (omega arith) } in
+    λ least low high. record { low = omega arith; high = omega arith; letters = λ i l. h .fits i (omega arith) } in
     ⊎-elim (λ f. FormFits.named (sym kk ∙ f .0) (lettered 1 (f .1) (f .2)))
     (⊎-elim (λ f. FormFits.figure (sym kk ∙ f .0) (sym nn ∙ f .1)) (λ f. FormFits.shortened (sym kk ∙ f .0) (lettered 3 (f .1) (f .2)))) fit
 
@@ -135,8 +135,8 @@ rules-refused {m} {c} {i} k h inside refused =
       at = i + 1;
       numbered = record { low = omega arith; high = omega (arith, k .rules) };
       before = λ q l n.
-        let same : (q - 1) + 1 ≡ q = omega (arith, n .low) in
-        subst (λ r. RuleFits (m .grammar) (rule (m .grammar .rules) r)) same (h .fits (q - 1) (omega (arith, n .low)));
+          let same : (q - 1) + 1 ≡ q = omega (arith, n .low) in
+          subst (λ r. RuleFits (m .grammar) (rule (m .grammar .rules) r)) same (h .fits (q - 1) (omega (arith, n .low)));
       refused = refused;
     }
 
@@ -147,8 +147,8 @@ keys-refused {m} {c} {i} k h inside refused =
       named = refl;
       key = record { low = omega arith; high = omega (arith, k .keys) };
       before = λ q l n.
-        let same : 33 + (q - 33) ≡ q = omega (arith, n .low) in
-        subst (λ r. FormFits (form (m .forms) r)) same (h .fits (q - 33) (omega (arith, n .low)));
+          let same : 33 + (q - 33) ≡ q = omega (arith, n .low) in
+          subst (λ r. FormFits (form (m .forms) r)) same (h .fits (q - 33) (omega (arith, n .low)));
       refused = refused;
     }
 
@@ -160,11 +160,11 @@ module _ (m : Meaning) (t : Table) (k : Counted m (t .counts)) where
       let ruled = length-map-counting (λ i. rule-of (getD (t .rules) i blank-rule)) 0 (t .counts .rules) in
       let formed = length-map-counting (λ i. form-of (getD (t .keys) i blank-key)) 0 (t .counts .keys) in
       let rules =
-          ext-getD norule (meaning-of t .grammar .rules) (m .grammar .rules) (ruled ∙ k .rules)
-          (λ i l. place-inside (λ j. rule-of (getD (t .rules) j blank-rule)) (t .counts .rules) i norule (omega (arith, ruled)) ∙ (rs .same i (omega (arith, ruled)) ∙ ap (λ r. getD (norule ∷ m .grammar .rules) r norule) (add-one i))) in
+      ext-getD norule (meaning-of t .grammar .rules) (m .grammar .rules) (ruled ∙ k .rules)
+      (λ i l. place-inside (λ j. rule-of (getD (t .rules) j blank-rule)) (t .counts .rules) i norule (omega (arith, ruled)) ∙ (rs .same i (omega (arith, ruled)) ∙ ap (λ r. getD (norule ∷ m .grammar .rules) r norule) (add-one i))) in
       let forms =
-          ext-getD noform (meaning-of t .forms) (m .forms) (formed ∙ k .forms)
-          (λ i l. place-inside (λ j. form-of (getD (t .keys) j blank-key)) (t .counts .keys) i noform (omega (arith, formed)) ∙ (ks .same i (omega (arith, formed)) ∙ form-at i)) in
+      ext-getD noform (meaning-of t .forms) (m .forms) (formed ∙ k .forms)
+      (λ i l. place-inside (λ j. form-of (getD (t .keys) j blank-key)) (t .counts .keys) i noform (omega (arith, formed)) ∙ (ks .same i (omega (arith, formed)) ∙ form-at i)) in
       λ i. record { grammar = record { parts = k .parts i; keys = k .keys i; start = k .start i; rules = rules i }; forms = forms i }
     where
       form-at : (i : ℕ) → form (m .forms) (33 + i) ≡ getD (m .forms) i noform

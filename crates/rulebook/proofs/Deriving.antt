@@ -55,9 +55,9 @@ pub keys-more : (s t : SymbolSet) (n : ℕ) → n < 32 → FirstKeys s n → ((c
 keys-more s t n few h with c = (
   λ held. ⊎-elim (λ e. omega arith) (λ e. let k = h c .0 e in (k .0, omega (arith, k .1))) (with-only s t (33 + n) with c held),
   λ k. ⊎-elim
-    (λ l. with-keeps s t (33 + n) with c (h c .1 (k .0, l)))
-    (λ l. let last : 33 + n ≡ c = omega arith in subst (λ x. has t x ≡ true) last (with-adds s t (33 + n) with (symbol-fits (33 + n) (omega arith) (omega arith))))
-    (cases-lt c (33 + n)),
+      (λ l. with-keeps s t (33 + n) with c (h c .1 (k .0, l)))
+      (λ l. let last : 33 + n ≡ c = omega arith in subst (λ x. has t x ≡ true) last (with-adds s t (33 + n) with (symbol-fits (33 + n) (omega arith) (omega arith))))
+      (cases-lt c (33 + n)),
 )
 
 -- one rule of length 1 more

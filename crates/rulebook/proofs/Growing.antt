@@ -64,10 +64,10 @@ module _ {D : ℕ → Type 0} {Fires : ℕ → (ℕ → Bool) → Type 0} {added
       record {
         grown = grown-more (h .grown) g;
         closed = λ i low high. ⊎-elim
-          (λ l still. h .closed i low (omega arith) (omega (arith, g .grows)))
-          (λ l still.
+            (λ l still. h .closed i low (omega arith) (omega (arith, g .grows)))
+            (λ l still.
             let last : n + 1 ≡ i = omega arith in
             let same = same-set t s (omega (arith, g .grows, h .grown .grows)) in
             subst (λ k. Closed (Fires k) (added k) s u) last (subst (λ x. Closed (Fires (n + 1)) (added (n + 1)) x u) same closed) still)
-          (cases-lt i (n + 1));
+            (cases-lt i (n + 1));
       }

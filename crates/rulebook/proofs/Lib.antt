@@ -3,3 +3,4 @@ pub mod Copying
 pub mod Deriving
 pub mod Growing
 pub mod Holding
+pub mod Smallest

@@ -4,5 +4,6 @@ pub mod Fault
 pub mod Refusals
 pub mod Rows
 pub mod Sets
+pub mod Sounds
 pub mod Tables
 pub mod Works

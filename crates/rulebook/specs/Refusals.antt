@@ -4,9 +4,10 @@ use Prim.Native.Nat.{ℕ, suc, _+_, _<_, _≤_}
 use mathlib.Core.Path.{_≡_}
 use lib.ListN.{length, getD}
 use Rattle.language.specs.Book.{Grammar, Meaning, Rule, rule, form, Part, Key, Numbered}
-use Rattle.language.specs.Sound.{CountsFit, RuleFits, FormFits}
+use Rattle.language.specs.Closure.{Productive, UnitPath}
+use Rattle.language.specs.Sound.{CountsFit, RuleFits, FormFits, WellFormed}
 use Rattle.rulebook.specs.declared.faults.Fault.{Fault}
-use Rattle.rulebook.specs.declared.faults.Fault.the-variants.{Counts, LeftSide, EmptyRule, LongRule, UnknownSymbol, KeyForm}
+use Rattle.rulebook.specs.declared.faults.Fault.the-variants.{Counts, LeftSide, EmptyRule, LongRule, UnknownSymbol, KeyForm, Unproductive, UnitCycle}
 
 -- the symbol at place d of a right side is the first that is neither a part nor a key
 pub record SymbolRefused (g : Grammar) (w : Rule) (d : ℕ) : Type 0 where
@@ -51,3 +52,9 @@ pub record Lowest (g : Grammar) (P : ℕ → Type 0) (p : ℕ) : Type 0 where
   pub part : Part g p
   pub before : (q : ℕ) → q < p → Part g q → P q
   pub fails : P p → ⊥
+
+-- the first question of the check that is answered no: counts, rules, keys, then the parts that cannot be turned into keys alone, then those that are turned into themselves alone
+pub data Refused (m : Meaning) : Fault → Type 0 where
+  copy : {f : Fault} → CopyRefused m f → Refused m f
+  unproductive : {p : ℕ} → WellFormed m → Lowest (m .grammar) (Productive (m .grammar)) p → Refused m (Unproductive p)
+  cyclic : {p : ℕ} → WellFormed m → ((X : ℕ) → Part (m .grammar) X → Productive (m .grammar) X) → Lowest (m .grammar) (λ X. UnitPath (m .grammar) X X → ⊥) p → Refused m (UnitCycle p)

@@ -35,8 +35,17 @@ pub fn counts_of<B: Book>(book: &B) -> Result<Counts, Fault>
     let keys = book.keys();
     let start = book.start();
     let rules = book.rules();
-    if within(parts, 1, 32) && within(keys, 1, 32) && within(start, 1, parts) && within(rules, 1, 128) {
-        Ok(Counts { parts, keys, start, rules })
+    if within(parts, 1, 32)
+        && within(keys, 1, 32)
+        && within(start, 1, parts)
+        && within(rules, 1, 128)
+    {
+        Ok(Counts {
+            parts,
+            keys,
+            start,
+            rules,
+        })
     } else {
         Err(Fault::Counts)
     }
@@ -88,7 +97,11 @@ fn rule_of<B: Book>(book: &B, rule: u16, counts: &Counts) -> Result<RuleRow, Fau
         return Err(Fault::LongRule { rule: number });
     }
     let symbols = symbols_of(book, rule, size, counts)?;
-    Ok(RuleRow { left, size, symbols })
+    Ok(RuleRow {
+        left,
+        size,
+        symbols,
+    })
 }
 
 // All rules of a book, if each fits.
@@ -177,5 +190,9 @@ pub fn table_of<B: Book>(book: &B) -> Result<Table, Fault>
     let counts = counts_of(book)?;
     let rules = rules_of(book, &counts)?;
     let keys = keys_of(book, &counts)?;
-    Ok(Table { counts, rules, keys })
+    Ok(Table {
+        counts,
+        rules,
+        keys,
+    })
 }

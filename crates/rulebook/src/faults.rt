@@ -92,14 +92,19 @@ impl Fault {
         match self {
             Fault::TextLength | Fault::SpaceShort | Fault::ProgrammeLength | Fault::Counts => 0,
             Fault::LineCount => 1,
-            Fault::LineMark { line, .. } | Fault::FieldForm { line, .. } | Fault::KeyNumber { line } => *line,
+            Fault::LineMark { line, .. }
+            | Fault::FieldForm { line, .. }
+            | Fault::KeyNumber { line } => *line,
             Fault::WordByte { byte } | Fault::WordLength { byte } => *byte,
-            Fault::LeftSide { rule } | Fault::EmptyRule { rule } | Fault::LongRule { rule } => *rule,
+            Fault::LeftSide { rule } | Fault::EmptyRule { rule } | Fault::LongRule { rule } =>
+                *rule,
             Fault::UnknownSymbol { rule, .. } => *rule,
             Fault::KeyForm { key } => *key,
             Fault::Unproductive { part } | Fault::UnitCycle { part } => *part,
-            Fault::DraftFull { held } | Fault::DarkWord { held } | Fault::ChartFull { held } => *held,
-            Fault::NothingHeld { held } | Fault::NotWhole { held } | Fault::StripShort { held } => *held,
+            Fault::DraftFull { held } | Fault::DarkWord { held } | Fault::ChartFull { held } =>
+                *held,
+            Fault::NothingHeld { held } | Fault::NotWhole { held } | Fault::StripShort { held } =>
+                *held,
             Fault::MoveRefused { at } | Fault::StackFull { at } => *at,
             Fault::StacksLeft { moves } => *moves,
         }

@@ -1,5 +1,6 @@
 // Rule books: the refusals, the questions that every make of book answers, the works book, the sound book and the check that fills it.
 mod books;
+mod checks;
 mod closures;
 mod copies;
 mod derivations;
@@ -11,6 +12,8 @@ mod tables;
 mod works;
 
 pub use books::Book;
+pub use checks::check;
+pub use checks::smallest_book;
 pub use faults::Fault;
 pub use rows::KeyRow;
 pub use rows::RuleRow;

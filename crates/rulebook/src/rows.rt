@@ -79,11 +79,7 @@ pub fn place_of(number: u16, first: u16, count: u16) -> Option<u16>
         return None;
     }
     let place = number - first;
-    if place < count {
-        Some(place)
-    } else {
-        None
-    }
+    if place < count { Some(place) } else { None }
 }
 
 // The row of a rule among the first count rows, or the blank row.

@@ -1,5 +1,5 @@
 // The sound book: a book that passed the check.
-ghost use Rattle.language.specs.Sound.{WellFormed};
+ghost use Rattle.language.specs.Sound.{Sound};
 ghost use Rattle.rulebook.specs.Tables.{meaning-of};
 use super::books::Book;
 use super::tables::Table;
@@ -8,8 +8,8 @@ use super::tables::TableIsBook;
 // Every value of this type is a book that passed the check, or the smallest book.
 #[derive(Clone, Copy)]
 pub struct SoundBook {
-    table: Table,
-    ghost sound: { ∥ WellFormed (meaning-of table) ∥₁ },
+    pub(crate) table: Table,
+    ghost sound: { ∥ Sound (meaning-of table) ∥₁ },
 }
 
 pub impl Book for SoundBook as SoundBookIsBook {

@@ -12,7 +12,7 @@ returns-then-same g c =
     record {
       grown = c .loop-next .inv;
       closed = λ i low high still fires known.
-        c .round-next .ensures .closed i low high (omega (arith, eqb-true _ _ (sym (c .same .ensures) ∙ c .if-same .taken))) fires known;
+          c .round-next .ensures .closed i low high (omega (arith, eqb-true _ _ (sym (c .same .ensures) ∙ c .if-same .taken))) fires known;
     }
 
 pub loop-next-less : need.loop-next-less

@@ -9,8 +9,7 @@ returns-in-rest g c = keys-refused (c .pre .counted) (c .loop-place .inv .1) (c 
 
 pub loop-place-again : need.loop-place-again
 loop-place-again g c =
-    let row = c .in-Some .ensures tt in
-    (
+    let row = c .in-Some .ensures tt in (
       length-set (c .loop-place .rows) (c .loop-place .place) (c .in-Some .row) ∙ c .loop-place .inv .0,
       copied-more _ _ _ _ _ _ _ (c .loop-place .inv .1) (omega (arith, c .loop-place .inv .0)) (row .0) (row .1),
     )

@@ -12,8 +12,7 @@ returns-in-Break-rows g c =
 
 pub loop-place-again : need.loop-place-again
 loop-place-again g c =
-    let row = c .in-Continue-rows .ensures tt in
-    (
+    let row = c .in-Continue-rows .ensures tt in (
       length-set (c .loop-place .rows) (c .loop-place .place) (c .in-Continue-rows .field-0) ∙ c .loop-place .inv .0,
       copied-more _ _ _ _ _ _ _ (c .loop-place .inv .1) (omega (arith, c .loop-place .inv .0)) (row .0) (row .1),
     )

@@ -25,8 +25,7 @@ pub returns : need.returns
 returns g c =
     let counts = c .in-Continue-counts .ensures tt in
     let rules = c .in-Continue-rules .ensures tt in
-    let keys = c .in-Continue-keys .ensures tt in
-    (
+    let keys = c .in-Continue-keys .ensures tt in (
       table-is _ (record { counts = c .in-Continue-counts .counts; rules = c .in-Continue-rules .rules; keys = c .in-Continue-keys .keys }) (counts .0) rules keys,
       record { counts = counts .1; rules = rules-fit _ (counts .0) rules; keys = keys-fit _ (counts .0) keys },
     )

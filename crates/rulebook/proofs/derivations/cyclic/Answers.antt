@@ -17,8 +17,7 @@ returns-then-contains c =
 
 pub loop-place-again : need.loop-place-again
 loop-place-again c =
-    let set = unit-set _ (c .pre) _ _ (c .closure .ensures .closed) _ (c .empty .ensures) (c .closure .ensures .grown) in
-    (
+    let set = unit-set _ (c .pre) _ _ (c .closure .ensures .closed) _ (c .empty .ensures) (c .closure .ensures .grown) in (
       c .loop-place .inv .0,
       up-to-more (λ q. UnitPath (meaning-of (c .args .table .now) .grammar) q q → ⊥) _ (c .loop-place .inv .1) (λ h. both-ways _ (sym (c .contains .ensures) ∙ c .if-contains .left) (set .whole _ h)),
     )
