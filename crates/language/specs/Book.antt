@@ -58,19 +58,19 @@ unfoldable pub rule : List Rule → ℕ → Rule
 rule rs r = getD (norule ∷ rs) r norule
 
 -- the left part of rule r
-unfoldable pub left : Grammar → ℕ → ℕ
+abbrev pub left : Grammar → ℕ → ℕ
 left g r = rule (g .rules) r .head
 
 -- the right side of rule r
-unfoldable pub right : Grammar → ℕ → List ℕ
+abbrev pub right : Grammar → ℕ → List ℕ
 right g r = rule (g .rules) r .body
 
 -- how many symbols the right side of rule r has
-unfoldable pub size : Grammar → ℕ → ℕ
+abbrev pub size : Grammar → ℕ → ℕ
 size g r = length (right g r)
 
 -- the symbol of rule r at place d of its right side, counted from 0
-unfoldable pub symbol : Grammar → ℕ → ℕ → ℕ
+abbrev pub symbol : Grammar → ℕ → ℕ → ℕ
 symbol g r d = getD (right g r) d 0
 
 -- the form of the key with symbol number c
@@ -78,12 +78,12 @@ unfoldable pub form : List KeyForm → ℕ → KeyForm
 form fs c = cond (leb 33 c) (getD fs (c - 33) noform) noform
 
 -- the kind of key c
-unfoldable pub kind : Meaning → ℕ → ℕ
-kind m c = form (m .forms) c .kind
+abbrev pub kind : List KeyForm → ℕ → ℕ
+kind fs c = form fs c .kind
 
 -- the spelling of key c
-unfoldable pub spelling : Meaning → ℕ → List ℕ
-spelling m c = form (m .forms) c .spelling
+abbrev pub spelling : List KeyForm → ℕ → List ℕ
+spelling fs c = form fs c .spelling
 
 -- a rule of n symbols, told by the symbol at each place
 abbrev pub ruled : ℕ → ℕ → (ℕ → ℕ) → Rule

@@ -79,7 +79,6 @@ module _ {X Y : Type 0} (read : X → Y) (blank : X) (want : ℕ → Y) (Fits : 
 
 -- the row of a rule whose symbols are copied is that rule
 pub row-is : (g : Grammar) (r : ℕ) (w : RuleRow) → w .left ≡ left g r → w .size ≡ size g r → SymbolsCopied g (rule (g .rules) r) (w .size) (w .symbols) → rule-of w ≡ rule (g .rules) r
-unfolding left size right
 row-is g r w l z h =
     let long = length-map-counting (λ j. getD (w .symbols) j 0) 0 (w .size) in
     let same =
@@ -89,15 +88,13 @@ row-is g r w l z h =
 
 -- and it fits where its left side is a part and its length is from 1 to 6
 pub row-fits : (g : Grammar) (r n : ℕ) (s : List ℕ) → Part g (left g r) → n ≡ size g r → 1 ≤ n → n ≤ 6 → SymbolsCopied g (rule (g .rules) r) n s → RuleFits g (rule (g .rules) r)
-unfolding left size right
 row-fits g r n s p z some few h = record { turns = p; some-symbols = omega arith; few-symbols = omega arith; symbols = λ d l. h .fits d (omega arith) }
 
 -- a key whose length does not go with its kind is not in form
-pub length-unfit : (m : Meaning) (c k n : ℕ) → k ≡ kind m c → n ≡ length (spelling m c) → (LengthFits k n → ⊥) → FormFits (form (m .forms) c) → ⊥
-unfolding kind spelling
-length-unfit m c k n kk nn unfit (FormFits.named e l) = unfit (inl (kk ∙ e, omega (arith, l .low), omega (arith, l .high)))
-length-unfit m c k n kk nn unfit (FormFits.figure e l) = unfit (inr (inl (kk ∙ e, nn ∙ l)))
-length-unfit m c k n kk nn unfit (FormFits.shortened e l) = unfit (inr (inr (kk ∙ e, omega (arith, l .low), omega (arith, l .high))))
+pub length-unfit : (fs : List Form) (c k n : ℕ) → k ≡ kind fs c → n ≡ length (spelling fs c) → (LengthFits k n → ⊥) → FormFits (form fs c) → ⊥
+length-unfit fs c k n kk nn unfit (FormFits.named e l) = unfit (inl (kk ∙ e, omega (arith, l .low), omega (arith, l .high)))
+length-unfit fs c k n kk nn unfit (FormFits.figure e l) = unfit (inr (inl (kk ∙ e, nn ∙ l)))
+length-unfit fs c k n kk nn unfit (FormFits.shortened e l) = unfit (inr (inr (kk ∙ e, omega (arith, l .low), omega (arith, l .high))))
 
 -- a form that fits has letters only
 letters-all : (w : Form) → FormFits w → (i : ℕ) → i < length (w .spelling) → Letter (getD (w .spelling) i 0)
@@ -105,25 +102,22 @@ letters-all w (FormFits.named e l) = l .letters
 letters-all w (FormFits.figure e l) = λ i h. absurd (omega arith)
 letters-all w (FormFits.shortened e l) = l .letters
 
-pub letters-unfit : (m : Meaning) (c n : ℕ) → n ≡ length (spelling m c) → (((i : ℕ) → i < n → Letter (getD (spelling m c) i 0)) → ⊥) → FormFits (form (m .forms) c) → ⊥
-unfolding spelling
-letters-unfit m c n nn unfit h = unfit (λ i l. letters-all _ h i (omega (arith, nn)))
+pub letters-unfit : (fs : List Form) (c n : ℕ) → n ≡ length (spelling fs c) → (((i : ℕ) → i < n → Letter (getD (spelling fs c) i 0)) → ⊥) → FormFits (form fs c) → ⊥
+letters-unfit fs c n nn unfit h = unfit (λ i l. letters-all _ h i (omega (arith, nn)))
 
 -- the row of a key whose letters are copied is the form of that key
-pub form-is : (m : Meaning) (c : ℕ) (w : KeyRow) → w .kind ≡ kind m c → w .len ≡ length (spelling m c) → LettersCopied (spelling m c) (w .len) (w .bytes) → form-of w ≡ form (m .forms) c
-unfolding kind spelling
-form-is m c w k n h =
+pub form-is : (fs : List Form) (c : ℕ) (w : KeyRow) → w .kind ≡ kind fs c → w .len ≡ length (spelling fs c) → LettersCopied (spelling fs c) (w .len) (w .bytes) → form-of w ≡ form fs c
+form-is fs c w k n h =
     let long = length-map-counting (λ j. getD (w .bytes) j 0) 0 (w .len) in
     let same =
-    ext-getD 0 (form-of w .spelling) (form (m .forms) c .spelling) (long ∙ n)
+    ext-getD 0 (form-of w .spelling) (form fs c .spelling) (long ∙ n)
     (λ i lt. place-inside (λ j. getD (w .bytes) j 0) (w .len) i 0 (omega (arith, long)) ∙ h .same i (omega (arith, long))) in
     λ i. record { kind = k i; spelling = same i }
 
 -- and it fits where its length goes with its kind
-pub form-fits : (m : Meaning) (c k n : ℕ) (bs : List ℕ) → k ≡ kind m c → n ≡ length (spelling m c) → LengthFits k n → LettersCopied (spelling m c) n bs → FormFits (form (m .forms) c)
-unfolding kind spelling
-form-fits m c k n bs kk nn fit h =
-    let lettered : (least : ℕ) → least ≤ n → n ≤ 24 → Lettered least (form (m .forms) c .spelling) =
+pub form-fits : (fs : List Form) (c k n : ℕ) (bs : List ℕ) → k ≡ kind fs c → n ≡ length (spelling fs c) → LengthFits k n → LettersCopied (spelling fs c) n bs → FormFits (form fs c)
+form-fits fs c k n bs kk nn fit h =
+    let lettered : (least : ℕ) → least ≤ n → n ≤ 24 → Lettered least (form fs c .spelling) =
     λ least low high. record { low = omega arith; high = omega arith; letters = λ i l. h .fits i (omega arith) } in
     ⊎-elim (λ f. FormFits.named (sym kk ∙ f .0) (lettered 1 (f .1) (f .2)))
     (⊎-elim (λ f. FormFits.figure (sym kk ∙ f .0) (sym nn ∙ f .1)) (λ f. FormFits.shortened (sym kk ∙ f .0) (lettered 3 (f .1) (f .2)))) fit

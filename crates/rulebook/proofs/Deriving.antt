@@ -21,7 +21,6 @@ symbol-fits c low high = and-from _ _ (le-leb 1 c low) (le-leb c 64 high)
 
 -- the left side of a rule of a well-formed book is a part
 pub left-part : (m : Meaning) (r : ℕ) → WellFormed m → Numbered (m .grammar) r → Part (m .grammar) (left (m .grammar) r)
-unfolding left
 left-part m r h n = h .rules r n .turns
 
 -- a set that has exactly the symbols of which D is true
@@ -66,7 +65,6 @@ unit-more g X r s n from all = ⊎-elim (λ e. UnitPath.one r n (from .0) e) (λ
 
 -- a symbol of a well-formed book is one that a set can hold
 pub symbol-known : (m : Meaning) (r d : ℕ) → WellFormed m → Numbered (m .grammar) r → d < size (m .grammar) r → symbolic (symbol (m .grammar) r d) ≡ true
-unfolding size symbol right
 symbol-known m r d h n l =
     ⊎-elim
     (λ p. symbol-fits (symbol (m .grammar) r d) (p .low) (omega (arith, p .high, h .counts .few-parts)))

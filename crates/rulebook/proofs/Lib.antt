@@ -1,4 +1,3 @@
-pub mod Answered
 pub mod Copying
 pub mod Deriving
 pub mod Growing

@@ -65,12 +65,12 @@ formed =
     }
 
 part-productive : Productive g 1
-unfolding left size symbol right rule
+unfolding rule
 part-productive = Productive.part 1 first (λ d l. let none : 0 ≡ d = omega arith in subst (λ i. Productive g (getD (33 ∷ []) i 0)) none (Productive.key 33 the-key))
 
 -- the only rule ends at the key
 unit-key : (X Y : ℕ) → UnitPath g X Y → 33 ≡ Y
-unfolding symbol right rule
+unfolding rule
 unit-key X Y (UnitPath.one r n e h) = ap (λ q. symbol g q 0) (one-rule r n)
 unit-key X Y (UnitPath.more r n e h) = ap (λ q. symbol g q 0) (one-rule r n)
 

@@ -39,13 +39,13 @@ pub trait Book {
 
     // The kind of a key; keys count from 33.
     fn kind(&self, key: u16) -> u16
-        ensures { λ r. ⌜ r ≡ kind-of (meaning (now (self .entry))) key ⌝ };
+        ensures { λ r. ⌜ r ≡ kind-of (meaning (now (self .entry)) .forms) key ⌝ };
 
     // The length of a key's spelling.
     fn spelling_len(&self, key: u16) -> u16
-        ensures { λ r. ⌜ r ≡ length (spelling-of (meaning (now (self .entry))) key) ⌝ };
+        ensures { λ r. ⌜ r ≡ length (spelling-of (meaning (now (self .entry)) .forms) key) ⌝ };
 
     // The byte at a place of a key's spelling; places count from 0.
     fn spelling_byte(&self, key: u16, at: u16) -> u8
-        ensures { λ r. ⌜ r ≡ getD (spelling-of (meaning (now (self .entry))) key) at 0 ⌝ };
+        ensures { λ r. ⌜ r ≡ getD (spelling-of (meaning (now (self .entry)) .forms) key) at 0 ⌝ };
 }

@@ -126,9 +126,9 @@ fn is_letter(byte: u8) -> bool
 
 // The bytes of a key's spelling, if each is a letter.
 fn letters_of<B: Book>(book: &B, key: u16, len: u16) -> Option<[u8; 24]>
-    requires sized { ⌜ len ≡ length (spelling-of (meaning (now book)) key) ⌝ }
+    requires sized { ⌜ len ≡ length (spelling-of (meaning (now book) .forms) key) ⌝ }
     requires few { ⌜ len ≤ 24 ⌝ }
-    ensures { λ r. ⌜ BySome r (((i : ℕ) → i < len → Letter (getD (spelling-of (meaning (now (book .entry))) key) i 0)) → ⊥) (λ s. LettersCopied (spelling-of (meaning (now (book .entry))) key) len s) ⌝ }
+    ensures { λ r. ⌜ BySome r (((i : ℕ) → i < len → Letter (getD (spelling-of (meaning (now (book .entry)) .forms) key) i 0)) → ⊥) (λ s. LettersCopied (spelling-of (meaning (now (book .entry)) .forms) key) len s) ⌝ }
 {
     let mut bytes = [0; 24];
     for at in 0..len {

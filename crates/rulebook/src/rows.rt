@@ -2,7 +2,7 @@
 ghost use mathlib.Core.Path.{_≡_};
 ghost use Prim.Native.Nat.{_+_, _<_, _≤_};
 ghost use mathlib.Core.Logic.{_⊎_};
-ghost use lib.ListN.{getD};
+ghost use lib.ListN.{length, getD};
 ghost use Rattle.std.specs.Options.{Cases as BySome};
 ghost use Rattle.language.specs.Book.{rule as rule-in, form as form-in};
 ghost use Rattle.rulebook.specs.Rows.{rule-of, form-of, rules-in, forms-in};
@@ -84,7 +84,9 @@ pub fn place_of(number: u16, first: u16, count: u16) -> Option<u16>
 
 // The row of a rule among the first count rows, or the blank row.
 pub fn rule_row(rows: &[RuleRow], count: u16, rule: u16) -> RuleRow
-    ensures { λ r. ⌜ rule-of r ≡ rule-in (rules-in (now (rows .entry)) count) rule ⌝ }
+    ensures left { λ r. ⌜ r .left ≡ rule-in (rules-in (now (rows .entry)) count) rule .head ⌝ }
+    ensures size { λ r. ⌜ r .size ≡ length (rule-in (rules-in (now (rows .entry)) count) rule .body) ⌝ }
+    ensures body { λ r. ⌜ rule-of r .body ≡ rule-in (rules-in (now (rows .entry)) count) rule .body ⌝ }
 {
     let Some(place) = place_of(rule, 1, count) else {
         return RuleRow::BLANK;
@@ -94,7 +96,9 @@ pub fn rule_row(rows: &[RuleRow], count: u16, rule: u16) -> RuleRow
 
 // The row of a key among the first count rows, or the blank row.
 pub fn key_row(rows: &[KeyRow], count: u16, key: u16) -> KeyRow
-    ensures { λ r. ⌜ form-of r ≡ form-in (forms-in (now (rows .entry)) count) key ⌝ }
+    ensures kind { λ r. ⌜ r .kind ≡ form-in (forms-in (now (rows .entry)) count) key .kind ⌝ }
+    ensures len { λ r. ⌜ r .len ≡ length (form-in (forms-in (now (rows .entry)) count) key .spelling) ⌝ }
+    ensures spelling { λ r. ⌜ form-of r .spelling ≡ form-in (forms-in (now (rows .entry)) count) key .spelling ⌝ }
 {
     let Some(place) = place_of(key, 33, count) else {
         return KeyRow::BLANK;

@@ -5,4 +5,4 @@ use Rattle.rulebook.specs.Copies.{LettersCopied}
 use Rattle.rulebook.proofs.copies.letters_of.Given as given
 
 abbrev pub Inv-loop-at : given.InvT-loop-at
-Inv-loop-at g l = (length (l .bytes) ≡ 24) × LettersCopied (spelling (g .B·Book .meaning (l .book)) (l .key)) (l .at) (l .bytes)
+Inv-loop-at g l = (length (l .bytes) ≡ 24) × LettersCopied (spelling (g .B·Book .meaning (l .book) .forms) (l .key)) (l .at) (l .bytes)

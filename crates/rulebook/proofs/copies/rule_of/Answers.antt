@@ -7,19 +7,15 @@ use Rattle.rulebook.proofs.Copying.{not-part, is-part, row-is, row-fits}
 use Rattle.rulebook.proofs.copies.rule_of.Needs as need
 
 pub returns-then-not-within : need.returns-then-not-within
-unfolding left
 returns-then-not-within g c = RuleRefused.left (not-part (c .pre) (c .within .ensures) (c .if-not-within .taken) (c .left-left .ensures))
 
 pub returns-then-size-eq0 : need.returns-then-size-eq0
-unfolding left size right
 returns-then-size-eq0 g c = RuleRefused.empty (is-part (c .pre) (c .within .ensures) (c .if-not-within .left) (c .left-left .ensures)) (sym (c .size-size .ensures) ∙ c .if-size-eq0 .taken)
 
 pub returns-then-size-gt6 : need.returns-then-size-gt6
-unfolding left size right
 returns-then-size-gt6 g c = RuleRefused.long (is-part (c .pre) (c .within .ensures) (c .if-not-within .left) (c .left-left .ensures)) (omega (arith, c .size-size .ensures))
 
 pub returns-in-Break-symbols : need.returns-in-Break-symbols
-unfolding left size right
 returns-in-Break-symbols g c =
     let p = err-from-errBy (c .from-residual .result) (c .from-residual .ensures .1) in
     rw (p .1, p .2) (RuleRefused.symbol (is-part (c .pre) (c .within .ensures) (c .if-not-within .left) (c .left-left .ensures)) (omega (arith, c .size-size .ensures)) (omega (arith, c .size-size .ensures)) (c .in-Break-symbols .ensures tt))

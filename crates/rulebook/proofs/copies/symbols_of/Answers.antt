@@ -10,7 +10,6 @@ pub loop-at-holds : need.loop-at-holds
 loop-at-holds g c = (refl, copied-none _ _ _ _ _)
 
 pub returns-then-not-is-symbol : need.returns-then-not-is-symbol
-unfolding symbol right size
 returns-then-not-is-symbol g c =
     SymbolFault.unknown (c .loop-at .at) (record {
       inside = omega (arith, c .pre .sized);
@@ -19,7 +18,6 @@ returns-then-not-is-symbol g c =
     })
 
 pub loop-at-again : need.loop-at-again
-unfolding symbol right
 loop-at-again g c = (
   length-set (c .loop-at .symbols) (c .loop-at .at) (c .symbol-symbol .result) ∙ c .loop-at .inv .0,
   copied-more _ _ _ _ _ _ _ (c .loop-at .inv .1) (omega (arith, c .loop-at .inv .0)) (c .symbol-symbol .ensures) (is-symbol (c .pre .counted) (c .is-symbol .ensures) (c .if-not-is-symbol .left) (c .symbol-symbol .ensures)),

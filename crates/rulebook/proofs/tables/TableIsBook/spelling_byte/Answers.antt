@@ -1,7 +1,8 @@
+use mathlib.Core.Path.{ap, _∙_}
+use lib.ListN.{getD}
 use Rattle.rulebook.specs.Tables.{meaning-of}
-use Rattle.rulebook.proofs.Answered.{row-byte}
 use Rattle.rulebook.proofs.tables.TableIsBook.spelling_byte.Needs as need
 
 pub returns : need.returns
 unfolding meaning-of
-returns c = row-byte (meaning-of (c .args .self .now)) (c .args .key) (c .key-row .result) (c .key-row .ensures) _ _ (c .byte .ensures)
+returns c = c .byte .ensures ∙ ap (λ l. getD l (c .args .at) 0) (c .key-row .ensures .spelling)
