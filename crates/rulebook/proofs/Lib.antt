@@ -1,5 +1,1 @@
-pub mod Copying
-pub mod Deriving
-pub mod Growing
 pub mod Holding
-pub mod Smallest

@@ -9,9 +9,13 @@ use Rattle.rulebook.specs.declared.sets.SymbolSet.{SymbolSet}
 abbrev pub symbolic : ℕ → Bool
 symbolic c = leb 1 c && leb c 64
 
--- the set holds symbol c
-unfoldable pub has : SymbolSet → ℕ → Bool
-has s c = symbolic c && bit (s .mask) (c - 1)
+-- a mask holds symbol c
+unfoldable pub holds : ℕ → ℕ → Bool
+holds m c = symbolic c && bit m (c - 1)
+
+-- a set holds symbol c
+abbrev pub has : SymbolSet → ℕ → Bool
+has s c = holds (s .mask) c
 
 -- c is the symbol x
 abbrev pub is-symbol : ℕ → ℕ → Bool

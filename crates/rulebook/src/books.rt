@@ -1,6 +1,9 @@
 // The questions that every make of book answers.
 ghost use mathlib.Core.Path.{_≡_};
+ghost use mathlib.Core.Logic.{_⊎_};
+ghost use Prim.Native.Nat.{_+_, _<_, _≤_};
 ghost use lib.ListN.{length, getD};
+ghost use Rattle.std.specs.Options.{Cases as BySome};
 ghost use Rattle.language.specs.Book.{Meaning, left as left-of, size as size-of, symbol as symbol-of, kind as kind-of, spelling as spelling-of};
 
 // A make of book. No question refuses or alters anything; one outside the book is answered 0.
@@ -48,4 +51,15 @@ pub trait Book {
     // The byte at a place of a key's spelling; places count from 0.
     fn spelling_byte(&self, key: u16, at: u16) -> u8
         ensures { λ r. ⌜ r ≡ getD (spelling-of (meaning (now (self .entry)) .forms) key) at 0 ⌝ };
+}
+
+// Where a number stands among so many that begin at first, counted from 0.
+pub fn place_of(number: u16, first: u16, count: u16) -> Option<u16>
+    ensures { λ r. ⌜ BySome r ((number < first) ⊎ (first + count ≤ number)) (λ i. (i < count) × (first + i ≡ number)) ⌝ }
+{
+    if number < first {
+        return None;
+    }
+    let place = number - first;
+    if place < count { Some(place) } else { None }
 }

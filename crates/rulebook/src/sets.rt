@@ -3,8 +3,29 @@ ghost use mathlib.Core.Path.{_≡_};
 ghost use mathlib.Core.Bool.{false, _||_};
 ghost use Prim.Native.Nat.{ℕ, _≤_};
 ghost use lib.Dec.{eqb};
-ghost use Rattle.rulebook.specs.Sets.{has, is-symbol};
-use super::rows::place_of;
+ghost use Rattle.rulebook.specs.Sets.{holds, has, is-symbol};
+use super::books::place_of;
+
+// Whether a mask holds a symbol.
+fn mask_holds(mask: u64, symbol: u16) -> bool
+    ensures { λ r. ⌜ r ≡ holds mask symbol ⌝ }
+{
+    match place_of(symbol, 1, 64) {
+        Some(place) => (mask >> place) % 2 == 1,
+        None => false,
+    }
+}
+
+// The mask with one symbol more; a number that is no symbol leaves it.
+fn mask_with(mask: u64, symbol: u16) -> u64
+    ensures held { λ r. ⌜ ((c : ℕ) → holds r c ≡ (is-symbol symbol c || holds mask c)) ⌝ }
+    ensures grows { λ r. ⌜ mask ≤ r ⌝ }
+{
+    match place_of(symbol, 1, 64) {
+        Some(place) => mask | 1 << place,
+        None => mask,
+    }
+}
 
 // A set of symbols from 1 to 64, as a mask: symbol c stands at bit c - 1.
 #[derive(Clone, Copy)]
@@ -14,7 +35,7 @@ pub struct SymbolSet {
 
 impl SymbolSet {
     pub fn empty() -> SymbolSet
-        ensures { λ r. ⌜ ((c : ℕ) → has r c ≡ false) ⌝ }
+        ensures { λ r. ⌜ r .mask ≡ 0 ⌝ }
     {
         SymbolSet { mask: 0 }
     }
@@ -22,12 +43,10 @@ impl SymbolSet {
     pub fn contains(&self, symbol: u16) -> bool
         ensures { λ r. ⌜ r ≡ has (now (self .entry)) symbol ⌝ }
     {
-        match place_of(symbol, 1, 64) {
-            Some(place) => (self.mask >> place) % 2 == 1,
-            None => false,
-        }
+        mask_holds(self.mask, symbol)
     }
 
+    // Whether two sets hold the same symbols.
     pub fn same(&self, other: &SymbolSet) -> bool
         ensures { λ r. ⌜ r ≡ eqb (now (self .entry) .mask) (now (other .entry) .mask) ⌝ }
     {
@@ -36,14 +55,11 @@ impl SymbolSet {
 
     // The set with one symbol more; a number that is no symbol leaves it.
     pub fn with(&self, symbol: u16) -> SymbolSet
-        ensures has { λ r. ⌜ ((c : ℕ) → has r c ≡ (is-symbol symbol c || has (now (self .entry)) c)) ⌝ }
+        ensures held { λ r. ⌜ ((c : ℕ) → has r c ≡ (is-symbol symbol c || has (now (self .entry)) c)) ⌝ }
         ensures grows { λ r. ⌜ now (self .entry) .mask ≤ r .mask ⌝ }
     {
-        match place_of(symbol, 1, 64) {
-            Some(place) => SymbolSet {
-                mask: self.mask | 1 << place,
-            },
-            None => *self,
+        SymbolSet {
+            mask: mask_with(self.mask, symbol),
         }
     }
 }

@@ -1,0 +1,4 @@
+pub mod Copying
+pub mod Deriving
+pub mod Growing
+pub mod Smallest
