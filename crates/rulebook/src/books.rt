@@ -63,3 +63,13 @@ pub fn place_of(number: u16, first: u16, count: u16) -> Option<u16>
     let place = number - first;
     if place < count { Some(place) } else { None }
 }
+
+// The item at a place, counted from 0, or what stands in for one past the end.
+pub fn item_or<T: Copy>(items: &[T], place: u16, past: T) -> T
+    ensures { λ r. ⌜ r ≡ getD (now (items .entry)) place past ⌝ }
+{
+    match items.get(place as usize) {
+        Some(item) => *item,
+        None => past,
+    }
+}

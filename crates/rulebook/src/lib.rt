@@ -4,6 +4,7 @@ mod faults;
 mod sets;
 
 pub use books::Book;
+pub use books::item_or;
 pub use books::place_of;
 pub use faults::Fault;
 pub use sets::SymbolSet;

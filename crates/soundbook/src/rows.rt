@@ -3,6 +3,7 @@ ghost use mathlib.Core.Path.{_≡_};
 ghost use lib.ListN.{length, getD};
 ghost use Rattle.language.specs.Book.{rule as rule-in, form as form-in};
 ghost use Rattle.soundbook.specs.Rows.{rule-of, form-of, rules-in, forms-in};
+use rulebook::item_or;
 use rulebook::place_of;
 
 // A rule; its symbols past the sixth are 0.
@@ -56,16 +57,6 @@ impl KeyRow {
         } else {
             0
         }
-    }
-}
-
-// The item at a place, counted from 0, or what stands in for one past the end.
-pub fn item_or<T: Copy>(items: &[T], place: u16, past: T) -> T
-    ensures { λ r. ⌜ r ≡ getD (now (items .entry)) place past ⌝ }
-{
-    match items.get(place as usize) {
-        Some(item) => *item,
-        None => past,
     }
 }
 

@@ -1,0 +1,4 @@
+pub mod Columns
+pub mod Form
+pub mod Text
+pub mod Written
