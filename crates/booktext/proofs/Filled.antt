@@ -93,6 +93,7 @@ stands m l0 l1 l2 l3 head n e l is e1 e2 e3 =
     let past : 0 + length (text-of m) ≡ n = omega arith in
     record {
       count = e;
+      within = l;
       front = ap (take n) all ∙ take-at (text-of m) (drop (0 + length (text-of m)) l0) n long;
       past = ap (drop n) all ∙ (drop-at (text-of m) (drop (0 + length (text-of m)) l0) n long ∙ ap (λ k. drop k l0) past);
     }

@@ -2,7 +2,7 @@
 use mathlib.Core.Path.{_≡_}
 use mathlib.Core.Bool.{cond}
 use mathlib.Core.List.{List, [], _∷_, _++_, map}
-use Prim.Native.Nat.{ℕ, _+_, _-_, _*_}
+use Prim.Native.Nat.{ℕ, _+_, _-_, _*_, _≤_}
 use lib.Dec.{ltb}
 use lib.ListN.{length, take, drop, replicate}
 use Rattle.std.specs.Iters.{counting}
@@ -65,5 +65,6 @@ text-of m = head-line m ++ (rules-text m ++ keys-text m)
 -- the text of a book stands in the first n bytes, and the bytes past them are as they were
 pub record Stands (m : Meaning) (was is : List ℕ) (n : ℕ) : Type 0 where
   pub count : n ≡ 34 * lines-in m
+  pub within : n ≤ length was
   pub front : take n is ≡ text-of m
   pub past : drop n is ≡ drop n was

@@ -4,6 +4,7 @@ use mathlib.Core.Bool.{cond}
 use mathlib.Core.List.{List, [], _∷_, map}
 use mathlib.Core.Logic.{_⊎_, ⊎-elim}
 use Prim.Native.Nat.{ℕ, zero, suc, _+_, _-_, _<_, _≤_}
+use native.Mathlib.Numerals.{add-one}
 use native.Mathlib.Omega.{arith}
 use lib.Dec.{leb}
 use lib.ListN.{length, getD}
@@ -19,6 +20,11 @@ place-inside f n i d h = getD-map-counting f 0 n i i d h (omega arith)
 
 pub place-outside : {X : Type 0} (f : ℕ → X) (n i : ℕ) (d : X) → n ≤ i → getD (map f (counting 0 n)) i d ≡ d
 place-outside f n i d h = getD-past (map f (counting 0 n)) i d (omega (arith, length-map-counting f 0 n))
+
+-- the rule at a place counted from 0
+pub rule-at : (rs : List Rule) (i : ℕ) → rule rs (i + 1) ≡ getD rs i norule
+unfolding rule
+rule-at rs i = ap (λ r. getD (norule ∷ rs) r norule) (add-one i)
 
 -- rule r of n rules that are told by f
 module _ (n : ℕ) (f : ℕ → Rule) where

@@ -1,10 +1,9 @@
 -- What one step of copying a book to fixed memory keeps.
 use mathlib.Core.Path.{_≡_, refl, sym, ap, subst, _∙_}
 use mathlib.Core.Bool.{Bool, true, false}
-use mathlib.Core.List.{List, _∷_}
+use mathlib.Core.List.{List}
 use mathlib.Core.Logic.{_⊎_, inl, inr, ⊎-elim, _≢_}
 use Prim.Native.Nat.{ℕ, _+_, _-_, _<_, _≤_}
-use native.Mathlib.Numerals.{add-one}
 use native.Mathlib.Omega.{arith}
 use lib.Dec.{leb}
 use lib.ListN.{length, getD, set}
@@ -16,7 +15,7 @@ use Rattle.std.proofs.shelf.Tests.{cond-true, le-leb}
 use Rattle.std.proofs.shelf.Ways.{not-from-decides}
 use Rattle.language.specs.Book.{Grammar, Meaning, KeyForm as Form, norule, noform, rule, left, right, size, form, kind, spelling, Part, Key, Numbered}
 use Rattle.language.specs.Sound.{RuleFits, Letter, Lettered, FormFits}
-use Rattle.language.proofs.Told.{place-inside}
+use Rattle.language.proofs.Told.{place-inside, rule-at}
 use Rattle.soundbook.specs.Copies.{Copied, SymbolsCopied, LettersCopied, RulesCopied, KeysCopied, LengthFits}
 use Rattle.soundbook.specs.Refusals.{RuleRefused, RulesRefused, KeysRefused}
 use Rattle.soundbook.specs.Rows.{rule-of, form-of, blank-rule, blank-key}
@@ -149,13 +148,13 @@ keys-refused {m} {c} {i} k h inside refused =
 -- a table whose counts, rules and keys are copied means the same as the book
 module _ (m : Meaning) (t : Table) (k : Counted m (t .counts)) where
   pub table-is : RulesCopied (m .grammar) (t .counts .rules) (t .rules) → KeysCopied m (t .counts .keys) (t .keys) → meaning-of t ≡ m
-  unfolding meaning-of rule form
+  unfolding meaning-of form
   table-is rs ks =
       let ruled = length-map-counting (λ i. rule-of (getD (t .rules) i blank-rule)) 0 (t .counts .rules) in
       let formed = length-map-counting (λ i. form-of (getD (t .keys) i blank-key)) 0 (t .counts .keys) in
       let rules =
       ext-getD norule (meaning-of t .grammar .rules) (m .grammar .rules) (ruled ∙ k .rules)
-      (λ i l. place-inside (λ j. rule-of (getD (t .rules) j blank-rule)) (t .counts .rules) i norule (omega (arith, ruled)) ∙ (rs .same i (omega (arith, ruled)) ∙ ap (λ r. getD (norule ∷ m .grammar .rules) r norule) (add-one i))) in
+      (λ i l. place-inside (λ j. rule-of (getD (t .rules) j blank-rule)) (t .counts .rules) i norule (omega (arith, ruled)) ∙ (rs .same i (omega (arith, ruled)) ∙ rule-at (m .grammar .rules) i)) in
       let forms =
       ext-getD noform (meaning-of t .forms) (m .forms) (formed ∙ k .forms)
       (λ i l. place-inside (λ j. form-of (getD (t .keys) j blank-key)) (t .counts .keys) i noform (omega (arith, formed)) ∙ (ks .same i (omega (arith, formed)) ∙ form-at i)) in

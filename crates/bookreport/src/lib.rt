@@ -1,0 +1,7 @@
+// What is found in the text of a book, and how it is told to a rule writer.
+mod examination;
+mod reports;
+
+pub use examination::Findings;
+pub use examination::examine;
+pub use reports::report_of;
