@@ -1,17 +1,17 @@
 -- A space that is filled with the lines of a book.
-use mathlib.Core.Path.{_≡_, refl, sym, ap, subst, _∙_}
+use mathlib.Core.Path.{_≡_, refl, sym, ap, _∙_}
 use mathlib.Core.List.{List, [], _∷_, _++_}
 use mathlib.Core.Logic.{∥∥₁-elim}
-use Prim.Native.Nat.{ℕ, zero, suc, _+_, _-_, _*_, _<_, _≤_}
+use Prim.Native.Nat.{ℕ, zero, suc, _+_, _-_, _*_, _≤_}
 use native.Mathlib.Bridge.{le-prop}
 use native.Mathlib.Omega.{arith}
 use lib.ListN.{length, take, drop, replicate}
 use Rattle.std.specs.Iters.{counting}
 use Rattle.std.specs.Joined.{joined}
-use Rattle.std.proofs.shelf.Lists.{append-nil, append-assoc, length-append, length-take, length-replicate, take-append-drop, take-at, drop-at}
-use Rattle.language.specs.Book.{Grammar, KeyForm, Meaning, left, size, kind, spelling}
+use Rattle.std.proofs.shelf.Lists.{append-nil, append-assoc, length-append, length-take, length-replicate, take-append-drop}
+use Rattle.language.specs.Book.{Grammar, KeyForm, Meaning, size, kind, spelling}
 use Rattle.language.specs.Sound.{Sound}
-use Rattle.booktext.specs.Written.{put, blank, boxed, line-of, head-line, symbol-field, rule-line, key-line, spread, rules-text, keys-text, lines-in, text-of, Stands}
+use Rattle.booktext.specs.Written.{put, blank, boxed, line-of, head-line, rule-line, key-line, spread, rules-text, keys-text, lines-in, text-of}
 use Rattle.booktext.proofs.Laid.{Fours, put-put, boxed-length, rule-to, rule-four}
 
 pub put-none : (xs : List ℕ) (a : ℕ) → xs ≡ put xs a []
@@ -20,7 +20,7 @@ put-none xs a =
     sym (take-append-drop a xs) ∙ ap (λ n. take a xs ++ drop n xs) same
 
 -- every line has 34 bytes
-flat-length : (fs : List (List ℕ)) → Fours fs → length (joined (λ f. f) fs) ≡ 4 * length fs
+pub flat-length : (fs : List (List ℕ)) → Fours fs → length (joined (λ f. f) fs) ≡ 4 * length fs
 flat-length [] h = refl
 flat-length (f ∷ fs) h = length-append f (joined (λ f. f) fs) ∙ omega (arith, h .0, flat-length fs (h .1))
 
@@ -35,7 +35,7 @@ head-length m =
 pub rule-length : (g : Grammar) (r : ℕ) → length (rule-line g r) ≡ 34
 rule-length g r = line-length 82 (rule-to g r (size g r)) refl (rule-four g r (size g r))
 
-spread-length : (s : List ℕ) → length (spread s) ≡ 24
+pub spread-length : (s : List ℕ) → length (spread s) ≡ 24
 spread-length s = omega (arith, length-append (take 24 s) (replicate (24 - length s) 32), length-take 24 s, length-replicate {A = ℕ} (24 - length s) 32)
 
 pub key-length : (fs : List KeyForm) (c : ℕ) → length (key-line fs c) ≡ 34
@@ -79,24 +79,6 @@ pub text-length : (m : Meaning) → length (text-of m) ≡ 34 * lines-in m
 unfolding text-of
 text-length m =
     omega (arith, length-append (head-line m) (rules-text m ++ keys-text m), length-append (rules-text m) (keys-text m), head-length m, rules-length m, keys-length m)
-
--- the three parts of a text, one after another
-pub stands : (m : Meaning) (l0 l1 l2 l3 head : List ℕ) (n : ℕ) → n ≡ 34 * lines-in m → n ≤ length l0 → head ≡ head-line m → l1 ≡ put l0 0 head → l2 ≡ put l1 34 (rules-text m) → l3 ≡ put l2 (34 * (1 + length (m .grammar .rules))) (keys-text m) → Stands m l0 l3 n
-unfolding text-of
-stands m l0 l1 l2 l3 head n e l is e1 e2 e3 =
-    let two : l2 ≡ put l0 0 (head-line m ++ rules-text m) =
-    e2 ∙ (ap (λ t. put t 34 (rules-text m)) (e1 ∙ ap (put l0 0) is) ∙ put-put l0 (head-line m) (rules-text m) 0 34 (omega (arith, head-length m)) (omega arith)) in
-    let three : l3 ≡ put l0 0 ((head-line m ++ rules-text m) ++ keys-text m) =
-    e3 ∙ (ap (λ t. put t (34 * (1 + length (m .grammar .rules))) (keys-text m)) two ∙ put-put l0 (head-line m ++ rules-text m) (keys-text m) 0 (34 * (1 + length (m .grammar .rules))) (omega (arith, length-append (head-line m) (rules-text m), head-length m, rules-length m)) (omega arith)) in
-    let all : l3 ≡ text-of m ++ drop (0 + length (text-of m)) l0 = three ∙ ap (put l0 0) (append-assoc (head-line m) (rules-text m) (keys-text m)) in
-    let long : length (text-of m) ≡ n = text-length m ∙ sym e in
-    let past : 0 + length (text-of m) ≡ n = omega arith in
-    record {
-      count = e;
-      within = l;
-      front = ap (take n) all ∙ take-at (text-of m) (drop (0 + length (text-of m)) l0) n long;
-      past = ap (drop n) all ∙ (drop-at (text-of m) (drop (0 + length (text-of m)) l0) n long ∙ ap (λ k. drop k l0) past);
-    }
 
 -- a sound book has few rules and few keys
 pub few-rules : (m : Meaning) → ∥ Sound m ∥₁ → length (m .grammar .rules) ≤ 128

@@ -1,6 +1,6 @@
 -- Fields laid into lines, and lines laid into a space.
-use mathlib.Core.Path.{_≡_, refl, sym, ap, subst, _∙_}
-use mathlib.Core.Bool.{Bool, true, false, cond}
+use mathlib.Core.Path.{_≡_, refl, sym, ap, _∙_}
+use mathlib.Core.Bool.{Bool, cond}
 use mathlib.Core.List.{List, [], _∷_, _++_, map}
 use Prim.Native.Nat.{ℕ, zero, suc, min, _+_, _-_, _*_, _^_, _<_, _≤_}
 use native.Mathlib.Omega.{arith}
@@ -12,14 +12,14 @@ use Rattle.std.specs.Joined.{joined}
 use Rattle.std.specs.Orderings.{Decides}
 use Rattle.std.proofs.shelf.Counted.{fill-by-all, length-map-counting}
 use Rattle.std.proofs.shelf.Edits.{paste-all}
-use Rattle.std.proofs.shelf.Lists.{append-nil, append-assoc, length-append, length-take, length-take-le, length-drop, length-replicate, drop-at, drop-drop, set-at, take-more}
+use Rattle.std.proofs.shelf.Lists.{append-nil, append-assoc, length-append, length-take, drop-at, drop-drop, set-at, take-more}
 use Rattle.std.proofs.shelf.Parts.{putMid-paste}
 use Rattle.std.proofs.shelf.Tests.{cond-both}
 use Rattle.std.proofs.shelf.Ways.{tells, same-from-decides, decides-like, decides-ltb}
-use Rattle.language.specs.Book.{Grammar, Meaning, left, size, symbol, kind, spelling}
+use Rattle.language.specs.Book.{Grammar, Meaning, left, size, symbol, spelling}
 use Rattle.language.proofs.Told.{place-inside}
 use Rattle.booktext.specs.Columns.{shown}
-use Rattle.booktext.specs.Written.{put, blank, boxed, line-of, head-line, symbol-field, rule-line, key-line, spread}
+use Rattle.booktext.specs.Written.{put, blank, boxed, line-of, head-line, symbol-field, rule-line, spread}
 use Rattle.booktext.proofs.Spelled.{take-min}
 
 -- what a copy into a part leaves

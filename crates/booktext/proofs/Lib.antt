@@ -1,6 +1,8 @@
+pub mod Again
 pub mod Asking
 pub mod Cut
 pub mod Filled
+pub mod Formed
 pub mod Laid
 pub mod Meant
 pub mod Order

@@ -1,8 +1,8 @@
 -- The order of the questions that are asked of a text.
 use mathlib.Core.Path.{_≡_, refl, sym, ap, subst, _∙_}
 use mathlib.Core.List.{List, [], _∷_, _++_}
-use mathlib.Core.Logic.{_⊎_, inl, inr, ⊎-elim}
-use Prim.Native.Nat.{ℕ, _+_, _*_}
+use mathlib.Core.Logic.{_⊎_, ⊎-elim}
+use Prim.Native.Nat.{ℕ, _+_}
 use native.Mathlib.Omega.{arith}
 use lib.ListN.{length}
 use Rattle.std.specs.Iters.{counting}
@@ -13,8 +13,8 @@ use Rattle.std.specs.declared.result.Result.{Result}
 use Rattle.std.specs.declared.result.Result.the-variants.{Ok, Err}
 use Rattle.rulebook.specs.Fault.{layer-of}
 use Rattle.rulebook.specs.declared.faults.Fault.{Fault}
-use Rattle.booktext.specs.Text.{number-at, text-meaning}
-use Rattle.booktext.specs.Form.{Question, asks-length, asks-mark, asks-number, asks-blank, asks-spelling, asks-lines, asks-key, fault-of, AllYes, FirstNo, Asked, head-questions, rule-questions, key-questions, lines-of, questions}
+use Rattle.booktext.specs.Text.{number-at}
+use Rattle.booktext.specs.Form.{Question, asks-length, asks-mark, asks-number, asks-blank, asks-spelling, asks-lines, asks-key, fault-of, AllYes, FirstNo, Asked, head-questions, rule-questions, key-questions, lines-of, questions, Sized}
 use Rattle.booktext.proofs.Asking.{yes-append, no-early, no-late}
 use Rattle.booktext.proofs.Meant.{text-rules, text-keys}
 
@@ -84,6 +84,6 @@ module _ (t : List ℕ) where
     refusal (Ok x) P is h = absurd is
     refusal (Err y) P is h = (subst (FirstNo (questions t)) (sym is) h, tt, ap layer-of is ∙ no-layer (questions t) e h)
 
-  -- the number of lines, by what the text means
-  pub lines-meant : AllYes counted → length t ≡ 34 * (1 + length (text-meaning t .grammar .rules) + text-meaning t .grammar .keys)
-  lines-meant h = omega (arith, h .0, text-rules t, text-keys t)
+  -- the length, by what the text means
+  pub sized : AllYes long → AllYes counted → Sized t
+  sized a c = record { lines = omega (arith, c .0, text-rules t, text-keys t); low = a .0 .1; high = a .0 .2 }

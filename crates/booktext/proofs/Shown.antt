@@ -1,9 +1,9 @@
 -- Four columns and the number that they show.
 use mathlib.Core.Path.{_≡_, refl, sym, ap, subst, _∙_}
-use mathlib.Core.Bool.{Bool, true, false, cond, _&&_}
+use mathlib.Core.Bool.{true, false}
 use mathlib.Core.List.{List, [], _∷_, _++_}
 use mathlib.Core.Logic.{⊎-elim}
-use Prim.Native.Nat.{ℕ, zero, suc, _+_, _-_, _*_, _/_, _%_, _<_, _≤_}
+use Prim.Native.Nat.{ℕ, suc, _+_, _-_, _*_, _/_, _%_, _<_, _≤_}
 use native.Mathlib.Omega.{arith}
 use lib.Dec.{eqb}
 use native.Mathlib.Numerals.{add-one}
@@ -52,12 +52,16 @@ pub same-refl : (xs : List ℕ) → same xs xs ≡ true
 same-refl [] = refl
 same-refl (a ∷ xs) = and-from (eqb a a) (same xs xs) (eq-eqb a a refl) (same-refl xs)
 
+-- columns that show what they weigh
+value-of : (f : List ℕ) (v : ℕ) → weighed 0 f ≡ v → f ≡ shown 4 v → value f ≡ v
+unfolding value
+value-of f v w e =
+    let is : same f (shown 4 (weighed 0 f)) ≡ true = ap (λ n. same f (shown 4 n)) w ∙ (ap (same f) (sym e) ∙ same-refl f) in
+    cond-true (same f (shown 4 (weighed 0 f))) (weighed 0 f) 0 is ∙ w
+
 -- columns that show a number have its value
 pub value-shown : (v : ℕ) → v < 10000 → value (shown 4 v) ≡ v
-unfolding value
-value-shown v h =
-    let w : weighed 0 (shown 4 v) ≡ v = omega (arith, shown-weighs v) in
-    cond-true _ _ 0 (ap (λ n. same (shown 4 v) (shown 4 n)) w ∙ same-refl (shown 4 v)) ∙ w
+value-shown v h = value-of (shown 4 v) v (omega (arith, shown-weighs v)) refl
 
 -- columns that show no number have the value 0
 pub value-none : (f : List ℕ) → ((v : ℕ) → v < 10000 → shown 4 v ≡ f → ⊥) → value f ≡ 0

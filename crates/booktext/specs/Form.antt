@@ -11,7 +11,7 @@ use Rattle.std.specs.declared.result.Result.{Result}
 use Rattle.rulebook.specs.declared.faults.Fault.{Fault}
 use Rattle.rulebook.specs.declared.faults.Fault.the-variants.{TextLength, LineMark, FieldForm, KeyNumber, LineCount}
 use Rattle.booktext.specs.Columns.{Blank, shown, value}
-use Rattle.booktext.specs.Text.{middle-of, field-of, spelling-field, spelled, number-at}
+use Rattle.booktext.specs.Text.{middle-of, field-of, spelling-field, spelled, number-at, text-meaning}
 
 -- one question; lines and fields count from 0
 pub data Question : Type 0 where
@@ -104,3 +104,9 @@ lines-of t = 1 + number-at t 0 3 + number-at t 0 1
 unfoldable pub questions : List ℕ → List Question
 questions t =
     asks-length (length t) ∷ (head-questions t ++ (asks-lines (length t) (lines-of t) ∷ (joined (rule-questions t) (counting 1 (number-at t 0 3)) ++ joined (key-questions t (1 + number-at t 0 3)) (counting 0 (number-at t 0 1)))))
+
+-- a text in form has one line for the counts and one for each rule and key of the book that it means
+pub record Sized (t : List ℕ) : Type 0 where
+  pub lines : length t ≡ 34 * (1 + length (text-meaning t .grammar .rules) + text-meaning t .grammar .keys)
+  pub low : 34 ≤ length t
+  pub high : length t ≤ 5474

@@ -9,6 +9,8 @@ use Rattle.std.specs.Iters.{counting}
 use Rattle.std.specs.Joined.{joined}
 use Rattle.language.specs.Book.{Grammar, KeyForm, Meaning, left, size, symbol, kind, spelling}
 use Rattle.booktext.specs.Columns.{shown}
+use Rattle.booktext.specs.Form.{AllYes, questions}
+use Rattle.booktext.specs.Text.{text-meaning}
 
 -- xs with ys from place a on
 abbrev pub put : List ℕ → ℕ → List ℕ → List ℕ
@@ -62,9 +64,11 @@ keys-text m = joined (key-line (m .forms)) (counting 33 (m .grammar .keys))
 unfoldable pub text-of : Meaning → List ℕ
 text-of m = head-line m ++ (rules-text m ++ keys-text m)
 
--- the text of a book stands in the first n bytes, and the bytes past them are as they were
+-- the text of a book stands in the first n bytes, is in form and means that book, and the bytes past them are as they were
 pub record Stands (m : Meaning) (was is : List ℕ) (n : ℕ) : Type 0 where
   pub count : n ≡ 34 * lines-in m
   pub within : n ≤ length was
   pub front : take n is ≡ text-of m
+  pub means : text-meaning (take n is) ≡ m
+  pub form : AllYes (questions (take n is))
   pub past : drop n is ≡ drop n was

@@ -9,8 +9,8 @@ ghost use Rattle.std.specs.Orderings.{Decides};
 ghost use Rattle.std.specs.Vec.{made, refused};
 ghost use Rattle.rulebook.specs.Fault.{layer-of};
 ghost use Rattle.booktext.specs.Columns.{value};
-ghost use Rattle.booktext.specs.Text.{field-of, number-at, text-meaning};
-ghost use Rattle.booktext.specs.Form.{Asked, Spelling, asks-length, asks-mark, asks-number, asks-lines, numbers, blanks, head-fields, rule-fields, key-fields, head-questions, rule-questions, key-questions, lines-of, questions};
+ghost use Rattle.booktext.specs.Text.{field-of, number-at};
+ghost use Rattle.booktext.specs.Form.{Asked, Sized, Spelling, asks-length, asks-mark, asks-number, asks-lines, numbers, blanks, head-fields, rule-fields, key-fields, head-questions, rule-questions, key-questions, lines-of, questions};
 use super::fields::is_blank;
 use super::fields::number;
 use super::lines::columns;
@@ -211,7 +211,7 @@ impl<'a> TextBook<'a> {
     // The book in a text, if the text is in form.
     pub fn read(text: &'a [u8]) -> Result<TextBook<'a>, Fault>
         ensures asked { λ r. ⌜ Asked (questions (now (text .entry))) r ⌝ }
-        ensures is { λ r. ⌜ made r (λ b. (now (b .text) ≡ now (text .entry)) × (length (now (text .entry)) ≡ 34 * (1 + length (text-meaning (now (text .entry)) .grammar .rules) + text-meaning (now (text .entry)) .grammar .keys))) ⌝ }
+        ensures is { λ r. ⌜ made r (λ b. (now (b .text) ≡ now (text .entry)) × Sized (now (text .entry))) ⌝ }
         ensures layer { λ r. ⌜ refused r (λ e. layer-of e ≡ 1) ⌝ }
     {
         whole(text)?;

@@ -3,8 +3,6 @@ ghost use mathlib.Core.Path.{_≡_};
 ghost use mathlib.Core.List.{[], _∷_};
 ghost use Prim.Native.Nat.{_+_, _*_, _<_, _≤_};
 ghost use lib.ListN.{length};
-ghost use Rattle.std.specs.Iters.{counting};
-ghost use Rattle.std.specs.Joined.{joined};
 ghost use Rattle.std.specs.Results.{Cases};
 ghost use Rattle.soundbook.specs.Sounds.{sound-meaning};
 ghost use Rattle.booktext.specs.Written.{put, boxed, blank, line-of, head-line, rule-line, key-line, rules-text, keys-text, lines-in, Stands};

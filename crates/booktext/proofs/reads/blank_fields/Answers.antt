@@ -1,4 +1,3 @@
-use mathlib.Core.Path.{refl, sym, _∙_, ap}
 use mathlib.Core.List.{[], _∷_}
 use Rattle.booktext.specs.Text.{field-of}
 use Rattle.booktext.specs.Form.{asks-blank}

@@ -1,6 +1,5 @@
 use mathlib.Core.Path.{_≡_, sym, subst}
 use mathlib.Core.List.{[], _∷_}
-use Prim.Native.Nat.{_+_, _*_}
 use Rattle.std.specs.Vec.{made}
 use Rattle.booktext.specs.Columns.{value}
 use Rattle.booktext.specs.Text.{field-of}

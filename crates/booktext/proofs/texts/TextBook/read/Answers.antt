@@ -1,5 +1,5 @@
 use mathlib.Core.Path.{refl}
-use Rattle.booktext.proofs.Order.{all-yes, no-length, no-head, no-count, no-rule, no-key, refusal, lines-meant}
+use Rattle.booktext.proofs.Order.{all-yes, no-length, no-head, no-count, no-rule, no-key, refusal, sized}
 use Rattle.booktext.proofs.texts.TextBook.read.Needs as need
 
 pub returns-in-Break-whole : need.returns-in-Break-whole
@@ -35,4 +35,4 @@ returns-in-Break-key-lines c =
 pub returns : need.returns
 returns c =
     let t = c .args .text .now in
-    record { asked = all-yes t (c .in-Continue-whole .ensures tt) (c .in-Continue-head-line .ensures tt) (c .in-Continue-counted .ensures tt) (c .in-Continue-rule-lines .ensures tt) (c .in-Continue-key-lines .ensures tt); is = (refl, lines-meant t (c .in-Continue-counted .ensures tt)); layer = tt }
+    record { asked = all-yes t (c .in-Continue-whole .ensures tt) (c .in-Continue-head-line .ensures tt) (c .in-Continue-counted .ensures tt) (c .in-Continue-rule-lines .ensures tt) (c .in-Continue-key-lines .ensures tt); is = (refl, sized t (c .in-Continue-whole .ensures tt) (c .in-Continue-counted .ensures tt)); layer = tt }
