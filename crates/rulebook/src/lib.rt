@@ -7,4 +7,5 @@ pub use books::Book;
 pub use books::item_or;
 pub use books::place_of;
 pub use faults::Fault;
+pub use faults::FaultDebug;
 pub use sets::SymbolSet;
