@@ -44,7 +44,7 @@ pub fn number(field: &[u8]) -> Option<u16>
 }
 
 // Whether the columns are all blank.
-pub fn is_blank(columns: &[u8]) -> bool
+pub(super) fn is_blank(columns: &[u8]) -> bool
     ensures { λ r. ⌜ Decides r (Blank (now (columns .entry))) ⌝ }
 {
     for byte in columns {

@@ -7,7 +7,7 @@ ghost use Rattle.soundbook.specs.Closures.{Grown, Closed};
 use rulebook::SymbolSet;
 
 // A way in which rules add symbols to a set: rule r adds one symbol to a set that lets it.
-pub trait Growth {
+pub(super) trait Growth {
     // how many rules there are
     ghost many: { Self → ℕ };
 
@@ -43,7 +43,7 @@ fn round<G: Growth>(growth: &G, set: &SymbolSet) -> SymbolSet
 }
 
 // The least set that holds a first set and to which no rule adds anything.
-pub fn closure<G: Growth>(growth: &G, first: SymbolSet) -> SymbolSet
+pub(super) fn closure<G: Growth>(growth: &G, first: SymbolSet) -> SymbolSet
     ensures grown { λ r. ⌜ Grown (derived (now (growth .entry))) first r ⌝ }
     ensures closed { λ r. ⌜ ((i : ℕ) → 1 ≤ i → i ≤ many (now (growth .entry)) → Closed (fires (now (growth .entry)) i) (added (now (growth .entry)) i) r r) ⌝ }
 {

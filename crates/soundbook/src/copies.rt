@@ -28,7 +28,7 @@ fn within(number: u16, least: u16, most: u16) -> bool
 }
 
 // The counts of a book, if they are in bounds.
-pub fn counts_of<B: Book>(book: &B) -> Result<Counts, Fault>
+fn counts_of<B: Book>(book: &B) -> Result<Counts, Fault>
     ensures { λ r. ⌜ Cases r (λ c. Counted (meaning (now (book .entry))) c × CountsFit (meaning (now (book .entry)) .grammar)) (λ f. (f ≡ CountsFault) × (CountsFit (meaning (now (book .entry)) .grammar) → ⊥)) ⌝ }
 {
     let parts = book.parts();
@@ -184,7 +184,7 @@ fn keys_of<B: Book>(book: &B, counts: &Counts) -> Result<[KeyRow; 32], Fault>
 }
 
 // A book in fixed memory, if its counts, rules and keys are in form, asked in that order.
-pub fn table_of<B: Book>(book: &B) -> Result<Table, Fault>
+pub(super) fn table_of<B: Book>(book: &B) -> Result<Table, Fault>
     ensures { λ r. ⌜ Cases r (λ t. (meaning-of t ≡ meaning (now (book .entry))) × WellFormed (meaning (now (book .entry)))) (λ f. CopyRefused (meaning (now (book .entry))) f) ⌝ }
 {
     let counts = counts_of(book)?;

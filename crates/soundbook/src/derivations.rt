@@ -74,7 +74,7 @@ fn keys_only(table: &Table) -> SymbolSet
 }
 
 // The lowest part that cannot be turned into keys alone.
-pub fn unproductive(table: &Table) -> Option<u16>
+pub(super) fn unproductive(table: &Table) -> Option<u16>
     requires { ⌜ WellFormed (meaning-of (now table)) ⌝ }
     ensures { λ r. ⌜ BySome r ((X : ℕ) → Part (meaning-of (now (table .entry)) .grammar) X → Productive (meaning-of (now (table .entry)) .grammar) X) (λ p. Lowest (meaning-of (now (table .entry)) .grammar) (Productive (meaning-of (now (table .entry)) .grammar)) p) ⌝ }
 {
@@ -125,7 +125,7 @@ impl Growth for UnitRules<'_> as UnitRulesGrow {
 }
 
 // The lowest part that is turned into itself alone.
-pub fn cyclic(table: &Table) -> Option<u16>
+pub(super) fn cyclic(table: &Table) -> Option<u16>
     requires { ⌜ WellFormed (meaning-of (now table)) ⌝ }
     ensures { λ r. ⌜ BySome r ((X : ℕ) → Part (meaning-of (now (table .entry)) .grammar) X → UnitPath (meaning-of (now (table .entry)) .grammar) X X → ⊥) (λ p. Lowest (meaning-of (now (table .entry)) .grammar) (λ X. UnitPath (meaning-of (now (table .entry)) .grammar) X X → ⊥) p) ⌝ }
 {

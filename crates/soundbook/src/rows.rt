@@ -22,7 +22,7 @@ impl RuleRow {
     };
 
     // The symbol at a place, counted from 0, or 0 past the right side.
-    pub fn symbol(&self, at: u16) -> u16
+    pub(super) fn symbol(&self, at: u16) -> u16
         ensures { λ r. ⌜ r ≡ getD (rule-of (now (self .entry)) .body) at 0 ⌝ }
     {
         if at < self.size {
@@ -49,7 +49,7 @@ impl KeyRow {
     };
 
     // The byte at a place of the spelling, counted from 0, or 0 past it.
-    pub fn byte(&self, at: u16) -> u8
+    pub(super) fn byte(&self, at: u16) -> u8
         ensures { λ r. ⌜ r ≡ getD (form-of (now (self .entry)) .spelling) at 0 ⌝ }
     {
         if at < self.len {
@@ -61,7 +61,7 @@ impl KeyRow {
 }
 
 // The row of a rule among the first count rows, or the blank row.
-pub fn rule_row(rows: &[RuleRow], count: u16, rule: u16) -> RuleRow
+pub(super) fn rule_row(rows: &[RuleRow], count: u16, rule: u16) -> RuleRow
     ensures left { λ r. ⌜ r .left ≡ rule-in (rules-in (now (rows .entry)) count) rule .head ⌝ }
     ensures size { λ r. ⌜ r .size ≡ length (rule-in (rules-in (now (rows .entry)) count) rule .body) ⌝ }
     ensures body { λ r. ⌜ rule-of r .body ≡ rule-in (rules-in (now (rows .entry)) count) rule .body ⌝ }
@@ -73,7 +73,7 @@ pub fn rule_row(rows: &[RuleRow], count: u16, rule: u16) -> RuleRow
 }
 
 // The row of a key among the first count rows, or the blank row.
-pub fn key_row(rows: &[KeyRow], count: u16, key: u16) -> KeyRow
+pub(super) fn key_row(rows: &[KeyRow], count: u16, key: u16) -> KeyRow
     ensures kind { λ r. ⌜ r .kind ≡ form-in (forms-in (now (rows .entry)) count) key .kind ⌝ }
     ensures len { λ r. ⌜ r .len ≡ length (form-in (forms-in (now (rows .entry)) count) key .spelling) ⌝ }
     ensures spelling { λ r. ⌜ form-of r .spelling ≡ form-in (forms-in (now (rows .entry)) count) key .spelling ⌝ }
