@@ -6,6 +6,7 @@ use mathlib.Core.Path.{_≡_}
 use Prim.Native.Nat.{ℕ, _+_, _*_}
 use lib.Chars.{codes}
 use lib.ListN.{length}
+use Rattle.std.specs.Orderings.{Decides}
 use Rattle.std.specs.Written.{decimal}
 use Rattle.language.specs.Book.{Rule, Meaning}
 use Rattle.language.specs.Sound.{Sound}
@@ -13,7 +14,7 @@ use Rattle.rulebook.specs.declared.faults.Fault.{Fault}
 use Rattle.soundbook.specs.Refusals.{Refused}
 use Rattle.booktext.specs.Form.{AllYes, FirstNo, questions}
 use Rattle.booktext.specs.Text.{text-meaning}
-use Rattle.booktext.specs.Written.{lines-in}
+use Rattle.booktext.specs.Written.{lines-in, text-of}
 use Rattle.bookreport.specs.declared.examination.Findings.{Findings}
 
 -- how many symbols the right sides of rules have
@@ -31,13 +32,18 @@ pub record Accepted (t : List ℕ) : Type 0 where
 abbrev pub TextRefused : List ℕ → Fault → Type 0
 TextRefused t f = FirstNo (questions t) f ⊎ (AllYes (questions t) × Refused (text-meaning t) f)
 
--- the findings are those of the book
-pub record Found (m : Meaning) (d : Findings) : Type 0 where
+-- the counts found are those of the book
+pub record Counts (m : Meaning) (d : Findings) : Type 0 where
   pub parts : d .parts ≡ m .grammar .parts
   pub keys : d .keys ≡ m .grammar .keys
   pub start : d .start ≡ m .grammar .start
   pub rules : d .rules ≡ length (m .grammar .rules)
   pub symbols : d .symbols ≡ symbols-in (m .grammar .rules)
+
+-- the findings in the text t: the counts of its book, and whether that is written back as t
+pub record Found (t : List ℕ) (d : Findings) : Type 0 where
+  pub counts : Counts (text-meaning t) d
+  pub back : Decides (d .same) (text-of (text-meaning t) ≡ t)
 
 -- how the book was written back
 abbrev pub told-back : Bool → List ℕ
@@ -54,4 +60,4 @@ told-findings d = told-with d (told-back (d .same))
 
 -- what is said of a text: the findings in its sound book, or that it is refused
 abbrev pub Told : List ℕ → List ℕ → Type 0
-Told t s = (Accepted t × ((d : Findings) × Found (text-meaning t) d × (s ≡ told-findings d))) ⊎ ((f : Fault) × TextRefused t f)
+Told t s = (Accepted t × ((d : Findings) × Found t d × (s ≡ told-findings d))) ⊎ ((f : Fault) × TextRefused t f)

@@ -18,7 +18,11 @@ fn works_book_is_sound(rt: LibcRuntime) -> Result<(), Fail> {
     let len = write(&place, space.as_mut_slice())?;
     check_eq(len, 374)?;
     let said = report_of(rt.alloc(), space.as_slice())?;
-    check(said.as_str().starts_with("sound book\nparts 2, keys 5, start 1\nrules 5, symbols 11\nwritten back byte for byte\n"))
+    check(
+        said.as_str().starts_with(
+            "sound book\nparts 2, keys 5, start 1\nrules 5, symbols 11\nwritten back byte for byte\n",
+        ),
+    )
 }
 
 #[test]
