@@ -33,7 +33,7 @@ abbrev pub TextRefused : List ℕ → Fault → Type 0
 TextRefused t f = FirstNo (questions t) f ⊎ (AllYes (questions t) × Refused (text-meaning t) f)
 
 -- the counts found are those of the book
-pub record Counts (m : Meaning) (d : Findings) : Type 0 where
+pub record CountsFound (m : Meaning) (d : Findings) : Type 0 where
   pub parts : d .parts ≡ m .grammar .parts
   pub keys : d .keys ≡ m .grammar .keys
   pub start : d .start ≡ m .grammar .start
@@ -42,7 +42,7 @@ pub record Counts (m : Meaning) (d : Findings) : Type 0 where
 
 -- the findings in the text t: the counts of its book, and whether that is written back as t
 pub record Found (t : List ℕ) (d : Findings) : Type 0 where
-  pub counts : Counts (text-meaning t) d
+  pub counts : CountsFound (text-meaning t) d
   pub back : Decides (d .same) (text-of (text-meaning t) ≡ t)
 
 -- how the book was written back

@@ -8,7 +8,7 @@ ghost use Rattle.std.specs.Results.{Cases};
 ghost use Rattle.soundbook.specs.Sounds.{sound-meaning};
 ghost use Rattle.booktext.specs.Text.{text-meaning};
 ghost use Rattle.booktext.specs.Written.{lines-in, Stands};
-ghost use Rattle.bookreport.specs.Findings.{symbols-in, Accepted, TextRefused, Counts, Found};
+ghost use Rattle.bookreport.specs.Findings.{symbols-in, Accepted, TextRefused, CountsFound, Found};
 use booktext::TextBook;
 use booktext::TextBookIsBook;
 use booktext::write;
@@ -61,7 +61,7 @@ fn is_same(one: &[u8], other: &[u8]) -> bool
 
 // The findings in a book that was written back as it was read, or not.
 fn findings_of(book: &SoundBook, same: bool) -> Findings
-    ensures counts { λ d. ⌜ Counts (sound-meaning (now (book .entry))) d ⌝ }
+    ensures counts { λ d. ⌜ CountsFound (sound-meaning (now (book .entry))) d ⌝ }
     ensures back { λ d. ⌜ d .same ≡ same ⌝ }
 {
     Findings {

@@ -7,16 +7,16 @@ use mathlib.Core.HLevel.{⊥-prop}
 use Prim.Native.Nat.{ℕ, zero, suc, _+_, _-_, _*_, _<_, _≤_}
 use native.Mathlib.Bridge.{le-prop}
 use native.Mathlib.Omega.{arith}
-use lib.Dec.{ltb, leb, eqb}
+use lib.Dec.{ltb, eqb}
 use lib.ListN.{length, getD, take, drop, replicate}
 use Rattle.std.specs.Iters.{counting}
 use Rattle.std.specs.Joined.{joined}
 use Rattle.std.proofs.shelf.Counted.{fill-by-all, length-map-counting}
 use Rattle.std.proofs.shelf.Lists.{append-assoc, length-append, take-all, take-at, drop-at, drop-drop, getD-at}
-use Rattle.std.proofs.shelf.Tests.{cond-true, cond-false, lt-ltb, le-leb, ne-eqb}
+use Rattle.std.proofs.shelf.Tests.{cond-true, cond-false, lt-ltb, ne-eqb}
 use Rattle.language.specs.Book.{Rule, KeyForm, norule, noform, Grammar, Meaning, Numbered, Key, rule, left, size, symbol, form, kind, spelling}
 use Rattle.language.specs.Sound.{Sound, CountsFit, RuleFits, FormFits, named, figure, shortened, Letter, small, hyphen, Lettered}
-use Rattle.language.proofs.Told.{place-inside}
+use Rattle.language.proofs.Told.{place-inside, rule-place, form-place}
 use Rattle.soundbook.specs.Tables.{meaning-of}
 use Rattle.soundbook.specs.declared.tables.Table.{Table}
 use Rattle.booktext.specs.Columns.{shown, value}
@@ -281,26 +281,19 @@ module _ (m : Meaning) where
     rules-is = number-head 3 (length (g .rules)) (omega arith) refl (omega (arith, fit .rules))
 
     rules-again : map (λ i. rule-at (text-of m) (1 + i)) (counting 0 (number-at (text-of m) 0 3)) ≡ g .rules
-    unfolding rule
     rules-again =
         let f : ℕ → Rule = λ i. rule-at (text-of m) (1 + i) in
         ap (λ n. map f (counting 0 n)) rules-is
         ∙ sym (fill-by-all f (g .rules) (length (g .rules)) norule refl
-        (λ k l. let next : suc k ≡ 1 + k = omega arith in
-        ap (λ n. getD (norule ∷ g .rules) n norule) next ∙ sym (rule-again (1 + k) k refl l)))
-
-    form-place : (k : ℕ) → getD (m .forms) k noform ≡ form (m .forms) (33 + k)
-    unfolding form
-    form-place k =
-        let back : k ≡ 33 + k - 33 = omega arith in
-        ap (λ n. getD (m .forms) n noform) back ∙ sym (cond-true (leb 33 (33 + k)) (getD (m .forms) (33 + k - 33) noform) noform (le-leb 33 (33 + k) (omega arith)))
+        (λ k l. let next : k + 1 ≡ 1 + k = omega arith in
+        sym (rule-place (g .rules) k) ∙ (ap (rule (g .rules)) next ∙ sym (rule-again (1 + k) k refl l))))
 
     forms-again : length (m .forms) ≡ g .keys → map (λ i. form-at (text-of m) (1 + number-at (text-of m) 0 3 + i)) (counting 0 (number-at (text-of m) 0 1)) ≡ m .forms
     forms-again each =
         let f : ℕ → KeyForm = λ i. form-at (text-of m) (1 + number-at (text-of m) 0 3 + i) in
         ap (λ n. map f (counting 0 n)) keys-is
         ∙ sym (fill-by-all f (m .forms) (g .keys) noform each
-        (λ k l. form-place k ∙ sym (form-again (33 + k) k (1 + number-at (text-of m) 0 3 + k) refl (omega (arith, rules-is)) l)))
+        (λ k l. sym (form-place (m .forms) k) ∙ sym (form-again (33 + k) k (1 + number-at (text-of m) 0 3 + k) refl (omega (arith, rules-is)) l)))
 
     -- the whole book again, where every key has one form
     pub text-again : length (m .forms) ≡ g .keys → text-meaning (text-of m) ≡ m

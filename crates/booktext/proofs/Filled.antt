@@ -1,16 +1,13 @@
 -- A space that is filled with the lines of a book.
 use mathlib.Core.Path.{_≡_, refl, sym, ap, _∙_}
 use mathlib.Core.List.{List, [], _∷_, _++_}
-use mathlib.Core.Logic.{∥∥₁-elim}
 use Prim.Native.Nat.{ℕ, zero, suc, _+_, _-_, _*_, _≤_}
-use native.Mathlib.Bridge.{le-prop}
 use native.Mathlib.Omega.{arith}
 use lib.ListN.{length, take, drop, replicate}
 use Rattle.std.specs.Iters.{counting}
 use Rattle.std.specs.Joined.{joined}
 use Rattle.std.proofs.shelf.Lists.{append-nil, append-assoc, length-append, length-take, length-replicate, take-append-drop}
 use Rattle.language.specs.Book.{Grammar, KeyForm, Meaning, size, kind, spelling}
-use Rattle.language.specs.Sound.{Sound}
 use Rattle.booktext.specs.Written.{put, blank, boxed, line-of, head-line, rule-line, key-line, spread, rules-text, keys-text, lines-in, text-of}
 use Rattle.booktext.proofs.Laid.{Fours, put-put, boxed-length, rule-to, rule-four}
 
@@ -79,10 +76,3 @@ pub text-length : (m : Meaning) → length (text-of m) ≡ 34 * lines-in m
 unfolding text-of
 text-length m =
     omega (arith, length-append (head-line m) (rules-text m ++ keys-text m), length-append (rules-text m) (keys-text m), head-length m, rules-length m, keys-length m)
-
--- a sound book has few rules and few keys
-pub few-rules : (m : Meaning) → ∥ Sound m ∥₁ → length (m .grammar .rules) ≤ 128
-few-rules m h = ∥∥₁-elim h le-prop (λ w. w .formed .counts .few-rules)
-
-pub few-keys : (m : Meaning) → ∥ Sound m ∥₁ → m .grammar .keys ≤ 32
-few-keys m h = ∥∥₁-elim h le-prop (λ w. w .formed .counts .few-keys)

@@ -9,7 +9,7 @@ use Rattle.std.specs.Iters.{counting}
 use Rattle.std.specs.Joined.{joined}
 use Rattle.std.proofs.shelf.Lists.{append-assoc, length-append, length-replicate, take-all, take-at, drop-at, drop-drop}
 use Rattle.std.proofs.shelf.Tests.{cond-true, cond-false, lt-ltb, le-ltb}
-use Rattle.language.specs.Book.{Grammar, Meaning, rule, left, size, symbol, kind, spelling}
+use Rattle.language.specs.Book.{Grammar, Meaning, left, size, symbol, kind, spelling}
 use Rattle.language.proofs.Told.{place-inside}
 use Rattle.booktext.specs.Columns.{Blank, shown, value}
 use Rattle.booktext.specs.Text.{middle-of, field-of, number-at, spelled, spelling-field, text-meaning}

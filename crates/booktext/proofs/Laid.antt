@@ -16,7 +16,7 @@ use Rattle.std.proofs.shelf.Lists.{append-nil, append-assoc, length-append, len
 use Rattle.std.proofs.shelf.Parts.{putMid-paste}
 use Rattle.std.proofs.shelf.Tests.{cond-both}
 use Rattle.std.proofs.shelf.Ways.{tells, same-from-decides, decides-like, decides-ltb}
-use Rattle.language.specs.Book.{Grammar, Meaning, left, size, symbol, spelling}
+use Rattle.language.specs.Book.{Grammar, Meaning, left, size, symbol}
 use Rattle.language.proofs.Told.{place-inside}
 use Rattle.booktext.specs.Columns.{shown}
 use Rattle.booktext.specs.Written.{put, blank, boxed, line-of, head-line, symbol-field, rule-line, spread}

@@ -11,7 +11,7 @@ use Rattle.std.specs.declared.option.Option.{Option}
 use Rattle.std.specs.declared.option.Option.the-variants.{Some, None}
 use Rattle.std.proofs.shelf.Tests.{cases-lt, cond-true, cond-false, lt-ltb, le-ltb}
 use Rattle.std.proofs.shelf.Counted.{length-map-counting}
-use Rattle.language.specs.Book.{norule, noform, rule, left, right, size, symbol, form, kind, spelling}
+use Rattle.language.specs.Book.{norule, noform, rule, left, size, symbol, form, kind, spelling}
 use Rattle.language.proofs.Told.{rule-inside, rule-outside, form-inside, form-outside, place-inside, place-outside}
 use Rattle.booktext.specs.Columns.{value}
 use Rattle.booktext.specs.Text.{Lined, field-of, number-at, number-on, rule-at, form-at, spelled, middle-of, spelling-field, text-meaning}

@@ -2,7 +2,7 @@
 use mathlib.Core.Path.{_≡_}
 use mathlib.Core.Logic.{_⊎_}
 use mathlib.Core.List.{List}
-use Prim.Native.Nat.{ℕ, _+_, _<_, _≤_}
+use Prim.Native.Nat.{ℕ, _<_, _≤_}
 use lib.ListN.{length, getD}
 use Rattle.language.specs.Book.{Rule, Grammar, KeyForm, Meaning, Part, Key, Numbered, rule, form}
 use Rattle.language.specs.Closure.{Productive, UnitPath}

@@ -1,11 +1,11 @@
 -- What a mask of symbols holds.
 use mathlib.Core.Path.{_≡_, refl, sym, ap, _∙_}
-use mathlib.Core.Bool.{Bool, true, false, _&&_, _||_}
+use mathlib.Core.Bool.{true, false, _&&_, _||_}
 use mathlib.Core.Logic.{_⊎_, ⊎-elim}
 use Prim.Native.Nat.{ℕ, _+_, _-_, _*_, _%_, _^_, _<_, _≤_}
 use native.Mathlib.Omega.{arith}
 use lib.Bits.{bitOr}
-use lib.Dec.{leb, eqb}
+use lib.Dec.{eqb}
 use Rattle.std.proofs.shelf.Bits.{one-shl}
 use Rattle.std.proofs.shelf.Tests.{le-leb, lt-leb, leb-true, eq-eqb, ne-eqb, cases-eq, cases-bool, and-from, and-left, and-right, and-parts}
 use Rattle.language.specs.Masks.{bit}

@@ -5,17 +5,15 @@ use mathlib.Core.List.{List}
 use mathlib.Core.Logic.{_⊎_, inl, inr, ⊎-elim, _≢_}
 use Prim.Native.Nat.{ℕ, _+_, _-_, _<_, _≤_}
 use native.Mathlib.Omega.{arith}
-use lib.Dec.{leb}
 use lib.ListN.{length, getD, set}
 use borrow.Author.Count.{below-more}
 use Rattle.std.specs.Orderings.{Decides}
 use Rattle.std.proofs.shelf.Counted.{length-map-counting}
 use Rattle.std.proofs.shelf.Lists.{getD-set-same, getD-set-other, ext-getD}
-use Rattle.std.proofs.shelf.Tests.{cond-true, le-leb}
 use Rattle.std.proofs.shelf.Ways.{not-from-decides}
 use Rattle.language.specs.Book.{Grammar, Meaning, KeyForm as Form, norule, noform, rule, left, right, size, form, kind, spelling, Part, Key, Numbered}
 use Rattle.language.specs.Sound.{RuleFits, Letter, Lettered, FormFits}
-use Rattle.language.proofs.Told.{place-inside, rule-at}
+use Rattle.language.proofs.Told.{place-inside, places-of, rule-place, form-place}
 use Rattle.soundbook.specs.Copies.{Copied, SymbolsCopied, LettersCopied, RulesCopied, KeysCopied, LengthFits}
 use Rattle.soundbook.specs.Refusals.{RuleRefused, RulesRefused, KeysRefused}
 use Rattle.soundbook.specs.Rows.{rule-of, form-of, blank-rule, blank-key}
@@ -78,12 +76,7 @@ module _ {X Y : Type 0} (read : X → Y) (blank : X) (want : ℕ → Y) (Fits : 
 
 -- the row of a rule whose symbols are copied is that rule
 pub row-is : (g : Grammar) (r : ℕ) (w : RuleRow) → w .left ≡ left g r → w .size ≡ size g r → SymbolsCopied g (rule (g .rules) r) (w .size) (w .symbols) → rule-of w ≡ rule (g .rules) r
-row-is g r w l z h =
-    let long = length-map-counting (λ j. getD (w .symbols) j 0) 0 (w .size) in
-    let same =
-    ext-getD 0 (rule-of w .body) (rule (g .rules) r .body) (long ∙ z)
-    (λ i lt. place-inside (λ j. getD (w .symbols) j 0) (w .size) i 0 (omega (arith, long)) ∙ h .same i (omega (arith, long))) in
-    λ i. record { head = l i; body = same i }
+row-is g r w l z h = λ i. record { head = l i; body = places-of (w .symbols) (right g r) (w .size) z (h .same) i }
 
 -- and it fits where its left side is a part and its length is from 1 to 6
 pub row-fits : (g : Grammar) (r n : ℕ) (s : List ℕ) → Part g (left g r) → n ≡ size g r → 1 ≤ n → n ≤ 6 → SymbolsCopied g (rule (g .rules) r) n s → RuleFits g (rule (g .rules) r)
@@ -106,12 +99,7 @@ letters-unfit fs c n nn unfit h = unfit (λ i l. letters-all _ h i (omega (arith
 
 -- the row of a key whose letters are copied is the form of that key
 pub form-is : (fs : List Form) (c : ℕ) (w : KeyRow) → w .kind ≡ kind fs c → w .len ≡ length (spelling fs c) → LettersCopied (spelling fs c) (w .len) (w .bytes) → form-of w ≡ form fs c
-form-is fs c w k n h =
-    let long = length-map-counting (λ j. getD (w .bytes) j 0) 0 (w .len) in
-    let same =
-    ext-getD 0 (form-of w .spelling) (form fs c .spelling) (long ∙ n)
-    (λ i lt. place-inside (λ j. getD (w .bytes) j 0) (w .len) i 0 (omega (arith, long)) ∙ h .same i (omega (arith, long))) in
-    λ i. record { kind = k i; spelling = same i }
+form-is fs c w k n h = λ i. record { kind = k i; spelling = places-of (w .bytes) (spelling fs c) (w .len) n (h .same) i }
 
 -- and it fits where its length goes with its kind
 pub form-fits : (fs : List Form) (c k n : ℕ) (bs : List ℕ) → k ≡ kind fs c → n ≡ length (spelling fs c) → LengthFits k n → LettersCopied (spelling fs c) n bs → FormFits (form fs c)
@@ -121,58 +109,55 @@ form-fits fs c k n bs kk nn fit h =
     ⊎-elim (λ f. FormFits.named (sym kk ∙ f .0) (lettered 1 (f .1) (f .2)))
     (⊎-elim (λ f. FormFits.figure (sym kk ∙ f .0) (sym nn ∙ f .1)) (λ f. FormFits.shortened (sym kk ∙ f .0) (lettered 3 (f .1) (f .2)))) fit
 
--- the first rule that does not fit, and the first key
-pub rules-refused : {m : Meaning} {c : Counts} {i : ℕ} {rows : List RuleRow} {f : Fault} → Counted m c → RulesCopied (m .grammar) i rows → i < c .rules → RuleRefused (m .grammar) (i + 1) (rule (m .grammar .rules) (i + 1)) f → RulesRefused (m .grammar) f
-rules-refused {m} {c} {i} k h inside refused =
-    record {
-      at = i + 1;
-      numbered = record { low = omega arith; high = omega (arith, k .rules) };
-      before = λ q l n.
-          let same : (q - 1) + 1 ≡ q = omega (arith, n .low) in
-          subst (λ r. RuleFits (m .grammar) (rule (m .grammar .rules) r)) same (h .fits (q - 1) (omega (arith, n .low)));
-      refused = refused;
-    }
+-- each of the first n rules fits where they are copied, and each of the first n keys
+rule-copied : {g : Grammar} {n : ℕ} {rows : List RuleRow} → RulesCopied g n rows → (r : ℕ) → 1 ≤ r → r ≤ n → RuleFits g (rule (g .rules) r)
+rule-copied {g} h r low high =
+    let same : r - 1 + 1 ≡ r = omega arith in
+    subst (λ q. RuleFits g (rule (g .rules) q)) same (h .fits (r - 1) (omega arith))
 
-pub keys-refused : {m : Meaning} {c : Counts} {i : ℕ} {rows : List KeyRow} → Counted m c → KeysCopied m i rows → i < c .keys → (FormFits (form (m .forms) (33 + i)) → ⊥) → KeysRefused m (KeyForm (33 + i))
-keys-refused {m} {c} {i} k h inside refused =
-    record {
-      at = 33 + i;
-      named = refl;
-      key = record { low = omega arith; high = omega (arith, k .keys) };
-      before = λ q l n.
-          let same : 33 + (q - 33) ≡ q = omega (arith, n .low) in
-          subst (λ r. FormFits (form (m .forms) r)) same (h .fits (q - 33) (omega (arith, n .low)));
-      refused = refused;
-    }
+key-copied : (m : Meaning) {n : ℕ} {rows : List KeyRow} → KeysCopied m n rows → (c : ℕ) → 33 ≤ c → c < 33 + n → FormFits (form (m .forms) c)
+key-copied m h c low high =
+    let same : 33 + (c - 33) ≡ c = omega arith in
+    subst (λ q. FormFits (form (m .forms) q)) same (h .fits (c - 33) (omega arith))
+
+-- the first rule that does not fit, and the first key; all fit where all are copied
+module _ {m : Meaning} {c : Counts} (k : Counted m c) where
+  pub rules-refused : {i : ℕ} {rows : List RuleRow} {f : Fault} → RulesCopied (m .grammar) i rows → i < c .rules → RuleRefused (m .grammar) (i + 1) (rule (m .grammar .rules) (i + 1)) f → RulesRefused (m .grammar) f
+  rules-refused {i} h inside refused =
+      record {
+        at = i + 1;
+        numbered = record { low = omega arith; high = omega (arith, k .rules) };
+        before = λ q l n. rule-copied h q (n .low) (omega arith);
+        refused = refused;
+      }
+
+  pub rules-fit : {rows : List RuleRow} → RulesCopied (m .grammar) (c .rules) rows → (r : ℕ) → Numbered (m .grammar) r → RuleFits (m .grammar) (rule (m .grammar .rules) r)
+  rules-fit h r n = rule-copied h r (n .low) (omega (arith, n .high, k .rules))
+
+  pub keys-refused : {i : ℕ} {rows : List KeyRow} → KeysCopied m i rows → i < c .keys → (FormFits (form (m .forms) (33 + i)) → ⊥) → KeysRefused m (KeyForm (33 + i))
+  keys-refused {i} h inside refused =
+      record {
+        at = 33 + i;
+        named = refl;
+        key = record { low = omega arith; high = omega (arith, k .keys) };
+        before = λ q l n. key-copied m h q (n .low) l;
+        refused = refused;
+      }
+
+  pub keys-fit : {rows : List KeyRow} → KeysCopied m (c .keys) rows → (q : ℕ) → Key (m .grammar) q → FormFits (form (m .forms) q)
+  keys-fit h q n = key-copied m h q (n .low) (omega (arith, n .high, k .keys))
 
 -- a table whose counts, rules and keys are copied means the same as the book
 module _ (m : Meaning) (t : Table) (k : Counted m (t .counts)) where
   pub table-is : RulesCopied (m .grammar) (t .counts .rules) (t .rules) → KeysCopied m (t .counts .keys) (t .keys) → meaning-of t ≡ m
-  unfolding meaning-of form
+  unfolding meaning-of
   table-is rs ks =
       let ruled = length-map-counting (λ i. rule-of (getD (t .rules) i blank-rule)) 0 (t .counts .rules) in
       let formed = length-map-counting (λ i. form-of (getD (t .keys) i blank-key)) 0 (t .counts .keys) in
       let rules =
       ext-getD norule (meaning-of t .grammar .rules) (m .grammar .rules) (ruled ∙ k .rules)
-      (λ i l. place-inside (λ j. rule-of (getD (t .rules) j blank-rule)) (t .counts .rules) i norule (omega (arith, ruled)) ∙ (rs .same i (omega (arith, ruled)) ∙ rule-at (m .grammar .rules) i)) in
+      (λ i l. place-inside (λ j. rule-of (getD (t .rules) j blank-rule)) (t .counts .rules) i norule (omega (arith, ruled)) ∙ (rs .same i (omega (arith, ruled)) ∙ rule-place (m .grammar .rules) i)) in
       let forms =
       ext-getD noform (meaning-of t .forms) (m .forms) (formed ∙ k .forms)
-      (λ i l. place-inside (λ j. form-of (getD (t .keys) j blank-key)) (t .counts .keys) i noform (omega (arith, formed)) ∙ (ks .same i (omega (arith, formed)) ∙ form-at i)) in
+      (λ i l. place-inside (λ j. form-of (getD (t .keys) j blank-key)) (t .counts .keys) i noform (omega (arith, formed)) ∙ (ks .same i (omega (arith, formed)) ∙ form-place (m .forms) i)) in
       λ i. record { grammar = record { parts = k .parts i; keys = k .keys i; start = k .start i; rules = rules i }; forms = forms i }
-    where
-      form-at : (i : ℕ) → form (m .forms) (33 + i) ≡ getD (m .forms) i noform
-      form-at i =
-          let same : 33 + i - 33 ≡ i = omega arith in
-          cond-true (leb 33 (33 + i)) _ noform (le-leb 33 (33 + i) (omega arith)) ∙ ap (λ j. getD (m .forms) j noform) same
-
--- all rules fit where all are copied, and all keys
-module _ (m : Meaning) {c : Counts} (k : Counted m c) where
-  pub rules-fit : {rows : List RuleRow} → RulesCopied (m .grammar) (c .rules) rows → (r : ℕ) → Numbered (m .grammar) r → RuleFits (m .grammar) (rule (m .grammar .rules) r)
-  rules-fit rs r n =
-      let same : r - 1 + 1 ≡ r = omega (arith, n .low) in
-      subst (λ q. RuleFits (m .grammar) (rule (m .grammar .rules) q)) same (rs .fits (r - 1) (omega (arith, n .low, n .high, k .rules)))
-
-  pub keys-fit : {rows : List KeyRow} → KeysCopied m (c .keys) rows → (q : ℕ) → Key (m .grammar) q → FormFits (form (m .forms) q)
-  keys-fit ks q n =
-      let same : 33 + (q - 33) ≡ q = omega (arith, n .low) in
-      subst (λ x. FormFits (form (m .forms) x)) same (ks .fits (q - 33) (omega (arith, n .low, n .high, k .keys)))

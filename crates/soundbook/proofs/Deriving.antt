@@ -1,13 +1,13 @@
 -- The sets that the check computes are the least sets.
-use mathlib.Core.Path.{_≡_, refl, sym, ap, subst, _∙_}
-use mathlib.Core.Bool.{Bool, true, false, _||_}
-use mathlib.Core.Logic.{_⊎_, inl, inr, ⊎-elim}
+use mathlib.Core.Path.{_≡_, ap, subst, _∙_}
+use mathlib.Core.Bool.{true, false, _||_}
+use mathlib.Core.Logic.{inl, inr, ⊎-elim}
 use Prim.Native.Nat.{ℕ, _+_, _<_, _≤_}
 use native.Mathlib.Omega.{arith}
 use lib.ListN.{length}
 use Rattle.std.specs.Orderings.{Decides}
 use Rattle.std.proofs.shelf.Tests.{and-from, both-ways, cases-lt, le-leb}
-use Rattle.language.specs.Book.{Grammar, Meaning, Part, Key, Numbered, rule, left, right, size, symbol}
+use Rattle.language.specs.Book.{Grammar, Meaning, Part, Key, Numbered, left, size, symbol}
 use Rattle.language.specs.Closure.{Productive, UnitPath}
 use Rattle.language.specs.Sound.{WellFormed}
 use Rattle.soundbook.specs.Closures.{Grown, Closed, AllHeld, UnitFrom}

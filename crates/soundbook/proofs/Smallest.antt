@@ -1,11 +1,11 @@
 -- The smallest book is sound.
-use mathlib.Core.Path.{_≡_, refl, sym, ap, subst, _∙_}
+use mathlib.Core.Path.{_≡_, refl, ap, subst}
 use mathlib.Core.Logic.{inr}
 use mathlib.Core.List.{[], _∷_}
-use Prim.Native.Nat.{ℕ, _<_, _≤_}
+use Prim.Native.Nat.{ℕ}
 use native.Mathlib.Omega.{arith}
-use lib.ListN.{length, getD}
-use Rattle.language.specs.Book.{Grammar, Part, Key, Numbered, rule, left, right, size, symbol, form}
+use lib.ListN.{getD}
+use Rattle.language.specs.Book.{Grammar, Part, Key, Numbered, rule, symbol, form}
 use Rattle.language.specs.Closure.{Productive, UnitPath}
 use Rattle.language.specs.Sound.{RuleFits, Letter, FormFits, WellFormed, Sound}
 use Rattle.soundbook.specs.Sounds.{smallest}

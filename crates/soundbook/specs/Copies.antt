@@ -3,8 +3,8 @@ use mathlib.Core.List.{List}
 use mathlib.Core.Logic.{_⊎_}
 use mathlib.Core.Path.{_≡_}
 use Prim.Native.Nat.{ℕ, _+_, _<_, _≤_}
-use lib.ListN.{length, getD}
-use Rattle.language.specs.Book.{Grammar, Meaning, Rule, KeyForm, rule, form, Part, Key}
+use lib.ListN.{getD}
+use Rattle.language.specs.Book.{Grammar, Meaning, Rule, rule, form, Part, Key}
 use Rattle.language.specs.Sound.{RuleFits, Letter, FormFits}
 use Rattle.soundbook.specs.Rows.{rule-of, form-of, blank-rule, blank-key}
 use Rattle.soundbook.specs.declared.rows.RuleRow.{RuleRow}

@@ -1,6 +1,6 @@
 -- Which question of the check is the first that is answered no.
 use mathlib.Core.Logic.{_⊎_}
-use Prim.Native.Nat.{ℕ, suc, _+_, _<_, _≤_}
+use Prim.Native.Nat.{ℕ, _+_, _<_, _≤_}
 use mathlib.Core.Path.{_≡_}
 use lib.ListN.{length, getD}
 use Rattle.language.specs.Book.{Grammar, Meaning, Rule, rule, form, Part, Key, Numbered}
@@ -26,14 +26,14 @@ pub data RuleRefused (g : Grammar) (r : ℕ) (w : Rule) : Fault → Type 0 where
   long : Part g (w .head) → 6 < length (w .body) → RuleRefused g r w (LongRule r)
   symbol : {f : Fault} → Part g (w .head) → 1 ≤ length (w .body) → length (w .body) ≤ 6 → SymbolFault g r w f → RuleRefused g r w f
 
--- rule r is the first that is refused
+-- the rule at this number is the first that is refused
 pub record RulesRefused (g : Grammar) (f : Fault) : Type 0 where
   pub at : ℕ
   pub numbered : Numbered g at
   pub before : (q : ℕ) → q < at → Numbered g q → RuleFits g (rule (g .rules) q)
   pub refused : RuleRefused g at (rule (g .rules) at) f
 
--- key c is the first whose kind and spelling do not go together
+-- the key at this symbol number is the first whose kind and spelling do not go together
 pub record KeysRefused (m : Meaning) (f : Fault) : Type 0 where
   pub at : ℕ
   pub named : f ≡ KeyForm at

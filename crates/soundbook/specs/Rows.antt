@@ -7,9 +7,11 @@ use Rattle.language.specs.Book.{Rule, KeyForm, ruled, formed}
 use Rattle.soundbook.specs.declared.rows.RuleRow.{RuleRow}
 use Rattle.soundbook.specs.declared.rows.KeyRow.{KeyRow}
 
+-- the rule in a row; a symbol past the sixth is 0
 abbrev pub rule-of : RuleRow → Rule
 rule-of w = ruled (w .left) (w .size) (λ j. getD (w .symbols) j 0)
 
+-- the form in a row; a byte past the twenty-fourth is 0
 abbrev pub form-of : KeyRow → KeyForm
 form-of w = formed (w .kind) (w .len) (λ j. getD (w .bytes) j 0)
 

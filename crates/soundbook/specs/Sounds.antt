@@ -5,6 +5,7 @@ use Rattle.language.specs.Book.{Meaning}
 use Rattle.soundbook.specs.Tables.{meaning-of}
 use Rattle.soundbook.specs.declared.sounds.SoundBook.{SoundBook}
 
+-- what its table means
 abbrev pub sound-meaning : SoundBook → Meaning
 sound-meaning s = meaning-of (s .table)
 

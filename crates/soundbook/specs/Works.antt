@@ -1,5 +1,5 @@
 -- The works book.
-use mathlib.Core.List.{List, [], _∷_}
+use mathlib.Core.List.{[], _∷_}
 use lib.Chars.{codes}
 use Rattle.language.specs.Book.{Meaning}
 

@@ -1,8 +1,7 @@
 // Least sets of symbols, by rounds over the rules until nothing is added.
 ghost use mathlib.Core.Path.{_≡_};
-ghost use mathlib.Core.Bool.{Bool, true};
+ghost use mathlib.Core.Bool.{Bool};
 ghost use Prim.Native.Nat.{ℕ, _≤_};
-ghost use Rattle.rulebook.specs.Sets.{has};
 ghost use Rattle.soundbook.specs.Closures.{Grown, Closed};
 use rulebook::SymbolSet;
 

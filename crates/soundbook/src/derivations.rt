@@ -1,13 +1,11 @@
 // The second half of the check: which parts can be turned into keys alone, and which into themselves alone.
-ghost use mathlib.Core.Path.{_≡_};
-ghost use mathlib.Core.Bool.{Bool, true};
-ghost use mathlib.Core.Logic.{_⊎_};
-ghost use Prim.Native.Nat.{ℕ, _+_, _<_, _≤_};
+ghost use mathlib.Core.Bool.{true};
+ghost use Prim.Native.Nat.{ℕ, _+_, _≤_};
 ghost use denote.Ref.{now};
 ghost use lib.ListN.{length};
 ghost use Rattle.std.specs.Options.{Cases as BySome};
 ghost use Rattle.std.specs.Orderings.{Decides};
-ghost use Rattle.language.specs.Book.{left as left-of, size as size-of, symbol as symbol-of, Part};
+ghost use Rattle.language.specs.Book.{left as left-of, symbol as symbol-of, Part};
 ghost use Rattle.language.specs.Closure.{Productive, UnitPath};
 ghost use Rattle.language.specs.Sound.{WellFormed};
 ghost use Rattle.soundbook.specs.Closures.{AllHeld, UnitFrom};

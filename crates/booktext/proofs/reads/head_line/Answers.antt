@@ -1,7 +1,6 @@
 use borrow.Author.Needs.{needs}
 use mathlib.Core.Path.{_≡_, subst, _∙_}
 use mathlib.Core.List.{_++_}
-use Prim.Native.Nat.{_+_}
 use lib.ListN.{getD}
 use Rattle.booktext.specs.Text.{middle-of}
 use Rattle.booktext.specs.Form.{Asked, marks, head-fields}

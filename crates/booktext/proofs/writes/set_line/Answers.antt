@@ -1,4 +1,4 @@
-use Prim.Native.Nat.{_-_, _*_}
+use Prim.Native.Nat.{_*_}
 use native.Mathlib.Omega.{arith}
 use Rattle.booktext.proofs.Laid.{put-mid}
 use Rattle.booktext.proofs.writes.set_line.Needs as need

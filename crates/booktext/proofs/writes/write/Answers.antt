@@ -1,17 +1,16 @@
 use native.Mathlib.Omega.{arith}
 use Rattle.soundbook.specs.Sounds.{sound-meaning}
 use Rattle.booktext.proofs.Again.{fitting, each-form}
-use Rattle.booktext.proofs.Filled.{few-rules, few-keys}
 use Rattle.booktext.proofs.Formed.{stands}
 use Rattle.booktext.proofs.writes.write.Needs as need
 
 pub set-rules-requires : need.set-rules-requires
 set-rules-requires c κs =
-    record { few = few-rules (sound-meaning (c .args .book .now)) (c .args .book .now .sound); room = omega (arith, c .written-len-len .ensures) }
+    record { few = fitting (sound-meaning (c .args .book .now)) (c .args .book .now .sound) .rules; room = omega (arith, c .written-len-len .ensures) }
 
 pub set-keys-requires : need.set-keys-requires
 set-keys-requires c κs =
-    record { few = few-keys (sound-meaning (c .args .book .now)) (c .args .book .now .sound); room = omega (arith, c .written-len-len .ensures) }
+    record { few = fitting (sound-meaning (c .args .book .now)) (c .args .book .now .sound) .keys; room = omega (arith, c .written-len-len .ensures) }
 
 pub returns : need.returns
 returns c =

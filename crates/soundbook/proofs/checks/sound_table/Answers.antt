@@ -2,7 +2,6 @@ use mathlib.Core.Path.{subst}
 use Rattle.std.proofs.shelf.Results.{err-from-errBy}
 use Rattle.language.specs.Book.{Part}
 use Rattle.language.specs.Closure.{Productive, UnitPath}
-use Rattle.language.specs.Sound.{Sound}
 use Rattle.soundbook.specs.Refusals.{Lowest, Refused}
 use Rattle.soundbook.proofs.checks.sound_table.Needs as need
 

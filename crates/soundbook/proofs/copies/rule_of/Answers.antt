@@ -1,7 +1,7 @@
 use mathlib.Core.Path.{sym, _∙_}
 use native.Mathlib.Omega.{arith}
 use Rattle.std.proofs.shelf.Results.{err-from-errBy}
-use Rattle.language.specs.Book.{left, size, right}
+use Rattle.language.specs.Book.{left, size}
 use Rattle.soundbook.specs.Refusals.{RuleRefused}
 use Rattle.soundbook.proofs.Copying.{not-part, is-part, row-is, row-fits}
 use Rattle.soundbook.proofs.copies.rule_of.Needs as need

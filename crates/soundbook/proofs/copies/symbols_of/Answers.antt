@@ -1,7 +1,6 @@
 use mathlib.Core.Path.{refl, _∙_}
 use native.Mathlib.Omega.{arith}
 use Rattle.std.proofs.shelf.Lists.{length-set}
-use Rattle.language.specs.Book.{symbol, right, size}
 use Rattle.soundbook.specs.Refusals.{SymbolFault}
 use Rattle.soundbook.proofs.Copying.{copied-none, copied-more, is-symbol, not-symbol}
 use Rattle.soundbook.proofs.copies.symbols_of.Needs as need

@@ -3,7 +3,7 @@ use native.Mathlib.Omega.{arith}
 use Rattle.std.proofs.shelf.Tests.{both-ways}
 use Rattle.language.specs.Closure.{UnitPath}
 use Rattle.soundbook.specs.Tables.{meaning-of}
-use Rattle.soundbook.proofs.Deriving.{Exactly, unit-set, up-to-more}
+use Rattle.soundbook.proofs.Deriving.{unit-set, up-to-more}
 use Rattle.soundbook.proofs.derivations.cyclic.Needs as need
 
 pub returns-then-contains : need.returns-then-contains

@@ -1,9 +1,7 @@
 use mathlib.Core.Path.{sym, _∙_}
 use native.Mathlib.Omega.{arith}
 use Rattle.std.proofs.shelf.Tests.{both-ways}
-use Rattle.soundbook.specs.Tables.{meaning-of}
-use Rattle.language.specs.Closure.{Productive}
-use Rattle.soundbook.proofs.Deriving.{Exactly, productive-set}
+use Rattle.soundbook.proofs.Deriving.{productive-set}
 use Rattle.soundbook.proofs.derivations.unproductive.Needs as need
 
 pub returns-then-not-contains : need.returns-then-not-contains
