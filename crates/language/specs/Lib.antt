@@ -1,4 +1,13 @@
 pub mod Book
+pub mod Chart
+pub mod Choice
 pub mod Closure
+pub mod Columns
+pub mod Machine
 pub mod Masks
+pub mod Moves
+pub mod Order
+pub mod Readings
 pub mod Sound
+pub mod Theorem
+pub mod Words
