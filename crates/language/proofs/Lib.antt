@@ -1,3 +1,5 @@
+pub mod Columns
 pub mod Masks
+pub mod Pigeonhole
 pub mod Told
 pub mod Words

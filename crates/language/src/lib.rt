@@ -1,1 +1,8 @@
-// What a rule book means. The definitions stand in specs/; this crate holds no product code.
+// What a rule book means, and what follows from it. The definitions stand in specs/ and the proofs in proofs/; each
+// theorem is the contract of a function here, which does nothing, so that no check passes without its proof.
+ghost use Rattle.language.specs.Columns.{ColumnsTheorem};
+
+// What the code that fills the chart word by word rests on.
+pub fn columns_theorem()
+    ensures { λ _. ⌜ ColumnsTheorem ⌝ }
+{}

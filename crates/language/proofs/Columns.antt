@@ -1,0 +1,5 @@
+pub mod Bounds
+pub mod Count
+pub mod Least
+pub mod Local
+pub mod Theorem
