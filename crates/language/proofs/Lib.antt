@@ -1,4 +1,5 @@
 pub mod Columns
+pub mod Corners
 pub mod Masks
 pub mod Pigeonhole
 pub mod Told

@@ -10,7 +10,7 @@ use Rattle.language.specs.Book.{Rule, Grammar, Key, Numbered, Meaning, left, s
 use Rattle.language.specs.Sound.{Sound}
 use Rattle.language.specs.Words.{Word, blank}
 use Rattle.language.specs.Readings.{Item, item}
-use Rattle.language.specs.Chart.{Corner, Wanted, Held, Spans}
+use Rattle.language.specs.Chart.{Corner, Wanted, Held}
 
 -- an item lies within the words, and some of its rule's symbols are done
 pub record InBounds (g : Grammar) (ws : List Word) (r d i k : ℕ) : Type 0 where

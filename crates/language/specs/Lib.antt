@@ -3,6 +3,7 @@ pub mod Chart
 pub mod Choice
 pub mod Closure
 pub mod Columns
+pub mod Corners
 pub mod Machine
 pub mod Masks
 pub mod Moves

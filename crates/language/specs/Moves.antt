@@ -6,7 +6,7 @@ use lib.ListN.{length}
 use Rattle.language.specs.Book.{Grammar, Meaning}
 use Rattle.language.specs.Sound.{Sound}
 use Rattle.language.specs.Words.{Word}
-use Rattle.language.specs.Readings.{Children, none, key, part, yield, count, Reading, Reads}
+use Rattle.language.specs.Readings.{Children, none, key, part, count, Reading, Reads}
 use Rattle.language.specs.Machine.{Complete}
 
 -- what stands behind a child's own moves: the rule's number behind the first child, 129 behind each later one

@@ -1,14 +1,12 @@
 -- Items lie within the words, and depend on the words up to their end alone.
-use mathlib.Core.Path.{_≡_, refl, sym, ap, subst}
-use mathlib.Core.Logic.{⊎-elim}
 use mathlib.Core.List.{List, [], _∷_}
 use Prim.Native.Nat.{ℕ, zero, suc, _<_, _≤_}
 use native.Mathlib.Omega.{arith}
 use lib.Dec.{T}
-use lib.ListN.{length, getD, take}
+use lib.ListN.{length, getD}
 use Rattle.language.specs.Book.{Grammar, Numbered, size}
 use Rattle.language.specs.Words.{Word, blank}
-use Rattle.language.specs.Chart.{Wanted, Held, Spans, first, next, begin, advance, word, finished}
+use Rattle.language.specs.Chart.{Held, Spans, begin, advance, word, finished}
 use Rattle.language.specs.Columns.{InBounds}
 
 -- a word that matches a key is one of the words

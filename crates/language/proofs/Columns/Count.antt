@@ -4,11 +4,11 @@ use mathlib.Core.Logic.{_⊎_, inl, inr, ⊎-elim}
 use mathlib.Core.List.{List, [], _∷_, _++_}
 use Prim.Native.Nat.{ℕ, zero, suc, _+_, _-_, _*_, _/_, _<_, _≤_}
 use native.Mathlib.Numerals.{add-one}
-use native.Mathlib.Nat.{mul-suc, suc-mul, mul-add, add-mul, mul-comm}
+use native.Mathlib.Nat.{mul-suc, suc-mul, mul-add}
 use native.Mathlib.Omega.{arith}
 use lib.ListN.{length, getD, length-append}
 use Rattle.std.proofs.shelf.Tests.{cases-order}
-use Rattle.language.specs.Book.{Rule, Grammar, Numbered, norule, rule, size}
+use Rattle.language.specs.Book.{Rule, Grammar, norule, rule}
 use Rattle.language.specs.Words.{Word}
 use Rattle.language.specs.Readings.{Item, item}
 use Rattle.language.specs.Chart.{Held}

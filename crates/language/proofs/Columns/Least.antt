@@ -1,7 +1,7 @@
 -- A set that is closed over the settled columns holds the new column; the same for what is wanted after a word.
-use mathlib.Core.Path.{_≡_, refl, sym, subst}
+use mathlib.Core.Path.{_≡_, sym, subst}
 use mathlib.Core.List.{List}
-use Prim.Native.Nat.{ℕ, suc, _<_, _≤_}
+use Prim.Native.Nat.{ℕ, _<_, _≤_}
 use native.Mathlib.Omega.{arith}
 use Rattle.language.specs.Book.{Grammar, Numbered, size, symbol}
 use Rattle.language.specs.Words.{Word}

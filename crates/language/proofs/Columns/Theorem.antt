@@ -1,13 +1,10 @@
 -- What the code that fills the chart rests on, in one place.
 use mathlib.Core.Path.{refl}
-use mathlib.Core.List.{List}
 use native.Mathlib.Nat.{le-refl}
 use lib.Dec.{T}
-use Rattle.language.specs.Words.{Word}
 use Prim.Native.Nat.{ℕ, _≤_}
-use Rattle.language.specs.Book.{Meaning, Numbered, size}
+use Rattle.language.specs.Book.{Numbered, size}
 use Rattle.language.specs.Chart.{Held}
-use Rattle.language.specs.Sound.{Sound}
 use Rattle.language.specs.Columns.{InBounds, ColumnsAre, ColumnsTheorem}
 use Rattle.language.proofs.Columns.Bounds.{held-bounds}
 use Rattle.language.proofs.Columns.Count.{few-items}
