@@ -4,6 +4,7 @@ pub mod Choice
 pub mod Closure
 pub mod Columns
 pub mod Corners
+pub mod Drafts
 pub mod Machine
 pub mod Masks
 pub mod Moves

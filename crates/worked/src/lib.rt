@@ -1,0 +1,1 @@
+// The worked examples, shown of the definitions.
