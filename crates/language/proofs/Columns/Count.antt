@@ -1,8 +1,8 @@
 -- How many items there can be: every place that an item may have, listed.
 use mathlib.Core.Path.{_≡_, refl, sym, ap, subst, _∙_}
-use mathlib.Core.Logic.{_⊎_, inl, inr, ⊎-elim}
+use mathlib.Core.Logic.{inl, inr, ⊎-elim}
 use mathlib.Core.List.{List, [], _∷_, _++_}
-use Prim.Native.Nat.{ℕ, zero, suc, _+_, _-_, _*_, _/_, _<_, _≤_}
+use Prim.Native.Nat.{ℕ, zero, suc, _+_, _*_, _/_, _<_, _≤_}
 use native.Mathlib.Numerals.{add-one}
 use native.Mathlib.Nat.{mul-suc, suc-mul, mul-add}
 use native.Mathlib.Omega.{arith}
@@ -14,22 +14,7 @@ use Rattle.language.specs.Readings.{Item, item}
 use Rattle.language.specs.Chart.{Held}
 use Rattle.language.specs.Columns.{InBounds, lengths, AllHeld, Among, Apart}
 use Rattle.language.proofs.Told.{rule-place}
-use Rattle.language.proofs.Pigeonhole.{no-more, among-front, among-back}
-
--- the items told by f at 1 to n
-upto : (ℕ → Item) → ℕ → List Item
-upto f zero = []
-upto f (suc d) = f (suc d) ∷ upto f d
-
-upto-length : (f : ℕ → Item) (n : ℕ) → length (upto f n) ≡ n
-unfolding upto
-upto-length f zero = refl
-upto-length f (suc n) = ap suc (upto-length f n)
-
-upto-among : (f : ℕ → Item) (n d : ℕ) → 1 ≤ d → d ≤ n → Among (f d) (upto f n)
-unfolding upto
-upto-among f zero d l h = absurd (omega arith)
-upto-among f (suc n) d l h = ⊎-elim (λ e. inl (ap f e)) (⊎-elim (λ b. inr (upto-among f n d l (omega arith))) (λ b. absurd (omega arith))) (cases-order d (suc n))
+use Rattle.language.proofs.Pigeonhole.{no-more, among-front, among-back, upto, upto-length, upto-among}
 
 -- for rules numbered from q: the items told by f at each rule and each number of its symbols
 dots : (ℕ → ℕ → Item) → ℕ → List Rule → List Item

@@ -1,0 +1,5 @@
+pub mod Many
+pub mod Rules
+pub mod Run
+pub mod Steps
+pub mod Theorem
