@@ -1,3 +1,4 @@
 pub mod Masks
+pub mod Order
 pub mod Told
 pub mod Words

@@ -1,0 +1,3 @@
+-- The order of readings: the first reading of some words exists, is one, and is what the choice gives.
+pub mod Strict
+pub mod Total
