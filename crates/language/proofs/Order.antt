@@ -1,3 +1,4 @@
 -- The order of readings: the first reading of some words exists, is one, and is what the choice gives.
+pub mod Choice
 pub mod Strict
 pub mod Total

@@ -25,7 +25,7 @@ fits-numbered g r (key ks c) f = fits-numbered g r ks (f .0)
 fits-numbered g r (part ks s cs) f = fits-numbered g r ks (f .0)
 
 -- two things are the same, or one of them comes first
-abbrev Ordered : Type 0 → Type 0 → Type 0 → Type 0
+abbrev pub Ordered : Type 0 → Type 0 → Type 0 → Type 0
 Ordered S A B = S ⊎ (A ⊎ B)
 
 -- first by one order, and where that says the same, by another
@@ -69,11 +69,11 @@ parts-total ks ls s t cs ds (inr (inl a)) k = inr (inl (inl a))
 parts-total ks ls s t cs ds (inr (inr b)) k = inr (inr (inl b))
 
 module _ (g : Grammar) (apart : Apart g) where
-  whole-count : (r q : ℕ) (ks ls : Children) → count ks ≡ size g r → count ls ≡ size g q → r ≡ q → count ks ≡ count ls
+  pub whole-count : (r q : ℕ) (ks ls : Children) → count ks ≡ size g r → count ls ≡ size g q → r ≡ q → count ks ≡ count ls
   whole-count r q ks ls a b e = a ∙ (ap (size g) e ∙ sym b)
 
   -- one place of a rule holds one symbol
-  same-symbol : (r a b c d : ℕ) → suc a ≡ suc b → symbol g r a ≡ c → symbol g r b ≡ d → c ≡ d
+  pub same-symbol : (r a b c d : ℕ) → suc a ≡ suc b → symbol g r a ≡ c → symbol g r b ≡ d → c ≡ d
   same-symbol r a b c d e p q = let same : a ≡ b = omega arith in sym p ∙ (ap (symbol g r) same ∙ q)
 
   children-total : (r : ℕ) (ks ls : Children) → Fits g r ks → Fits g r ls → count ks ≡ count ls → Ordered (ks ≡ ls) (Inner ks ls) (Inner ls ks)
