@@ -1,4 +1,5 @@
 -- The order of readings: the first reading of some words exists, is one, and is what the choice gives.
 pub mod Choice
+pub mod Listed
 pub mod Strict
 pub mod Total
