@@ -12,7 +12,7 @@ use Rattle.language.specs.Readings.{Children, none, key, part, yield, count, F
 use Rattle.language.specs.Order.{beginnings, Earlier, Top, Inner, Before}
 use Rattle.language.specs.Choice.{Covers, word, reading, Lowest, Earliest, Chosen, ChoiceTheorem}
 use Rattle.language.proofs.Words.{Single, is-front, is-back, is-single}
-use Rattle.language.proofs.Order.Total.{Apart, sound-apart, fits-numbered, same-symbol, whole-count}
+use Rattle.language.proofs.Order.Total.{Apart, sound-apart, same-symbol, whole-count, not-both}
 
 -- beginnings are earlier, or the same and so is what follows, or that comes first
 abbrev Ahead : List ℕ → List ℕ → Type 0 → Type 0 → Type 0
@@ -51,10 +51,9 @@ parts-lead ks ls s t cs ds (inr b) o = inr (inl b)
 
 module _ (g : Grammar) (apart : Apart g) where
   -- the chosen child begins no later than another at its place
-  begins-first : (r d b : ℕ) (ws : List Word) (ls : Children) (q : List ℕ) → Earliest g r d b ws → Fits g r ls → count ls ≡ d → Is (yield ls ++ q) ws
+  begins-first : (r d b : ℕ) (ws : List Word) (ls : Children) → Earliest g r d b ws → Fits g r ls → count ls ≡ d → Is (yield ls) (take (length (yield ls)) ws)
       → Covers g (symbol g r d) (drop (length (yield ls)) ws) → b ≤ length (yield ls)
-  begins-first r d b ws ls q earliest f e h covers =
-      earliest (length (yield ls)) (record { children = ls; fits = f; many = e; is = is-front (yield ls) q ws h }) covers
+  begins-first r d b ws ls earliest f e h covers = earliest (length (yield ls)) (record { children = ls; fits = f; many = e; is = h }) covers
 
   key-covers : (r d c : ℕ) (ws : List Word) → symbol g r d ≡ c → Key g c → Is (c ∷ []) ws → Covers g (symbol g r d) ws
   key-covers r d c ws e k h =
@@ -69,39 +68,42 @@ module _ (g : Grammar) (apart : Apart g) where
       → (r ≡ q → Within ks ls) → Leads r ks q ls
   lowest-leads r q ks ls ws lowest e f n h within = leads r q ks ls (lowest q e (record { children = ls; fits = f; many = n; is = h })) within
 
-  same-place : (r a b c : ℕ) → suc a ≡ suc b → symbol g r b ≡ c → symbol g r a ≡ c
-  same-place r a b c e p = let same : a ≡ b = omega arith in rw same p
-
-  chosen-within : (r : ℕ) (ks ls : Children) (ws : List Word) → count ks ≡ count ls → Fits g r ks → Fits g r ls → Is (yield ks) ws → Is (yield ls) ws → Chosen g r ks ws → Within ks ls
+  chosen-within : (r : ℕ) (ks ls : Children) (ws : List Word) → count ks ≡ count ls → Fits g r ks → Fits g r ls → Is (yield ks) ws → Is (yield ls) ws
+      → Chosen g r ks ws → Within ks ls
   chosen-within r none none ws e f h i k chosen = inr (refl, inl refl)
   chosen-within r none (key ls d) ws e f h i k chosen = absurd (omega (arith, e))
   chosen-within r none (part ls t ds) ws e f h i k chosen = absurd (omega (arith, e))
   chosen-within r (key ks c) none ws e f h i k chosen = absurd (omega (arith, e))
   chosen-within r (key ks c) (key ls d) ws e f h i k chosen =
+      let same = same-symbol g r (count ks) (count ls) c d e (f .2) (h .2) in
+      let many : count ks ≡ count ls = omega (arith, e) in
+      let front = is-front (yield ls) (d ∷ []) ws k in
+      let covers = key-covers r (count ks) d (drop (length (yield ls)) ws) (f .2 ∙ same) (h .3) (is-back (yield ls) (d ∷ []) ws k) in
       ahead-more (length (yield ks)) (length (yield ls)) (beginnings ks) (beginnings ls)
-          (begins-first r (count ks) (length (yield ks)) ws ls (d ∷ []) (chosen .0) (h .0) (omega (arith, e)) k
-              (key-covers r (count ks) d (drop (length (yield ls)) ws) (same-place r (count ks) (count ls) d e (h .2)) (h .3) (is-back (yield ls) (d ∷ []) ws k)))
-          (λ same. chosen-within r ks ls (take (length (yield ks)) ws) (omega (arith, e)) (f .0) (h .0) (is-front (yield ks) (c ∷ []) ws i) (rw same (is-front (yield ls) (d ∷ []) ws k)) (chosen .1))
-          (λ same o. ⊎-elim (λ p. inl (ap₂ key p (same-symbol g apart r (count ks) (count ls) c d e (f .2) (h .2)))) inr o)
-  chosen-within r (key ks c) (part ls t ds) ws e f h i k chosen =
-      absurd (apart c t (f .3) (fits-numbered g t ds (h .3)) (same-symbol g apart r (count ks) (count ls) c (left g t) e (f .2) (h .2)))
+          (begins-first r (count ks) (length (yield ks)) ws ls (chosen .0) (h .0) (sym many) front covers)
+          (λ b. chosen-within r ks ls (take (length (yield ks)) ws) many (f .0) (h .0) (is-front (yield ks) (c ∷ []) ws i) (rw b front) (chosen .1))
+          (λ b o. ⊎-elim (λ p. inl (ap₂ key p same)) inr o)
+  chosen-within r (key ks c) (part ls t ds) ws e f h i k chosen = absurd (not-both g apart r (count ks) (count ls) c t ds e (f .2) (f .3) (h .2) (h .3))
   chosen-within r (part ks s cs) none ws e f h i k chosen = absurd (omega (arith, e))
-  chosen-within r (part ks s cs) (key ls d) ws e f h i k chosen =
-      absurd (apart d s (h .3) (fits-numbered g s cs (f .3)) (sym (same-symbol g apart r (count ks) (count ls) (left g s) d e (f .2) (h .2))))
+  chosen-within r (part ks s cs) (key ls d) ws e f h i k chosen = absurd (not-both g apart r (count ls) (count ks) d s cs (sym e) (h .2) (h .3) (f .2) (f .3))
   chosen-within r (part ks s cs) (part ls t ds) ws e f h i k chosen =
+      let same = same-symbol g r (count ks) (count ls) (left g s) (left g t) e (f .2) (h .2) in
+      let many : count ks ≡ count ls = omega (arith, e) in
+      let front = is-front (yield ls) (yield ds) ws k in
+      let back = is-back (yield ls) (yield ds) ws k in
+      let covers = part-covers r (count ks) t ds (drop (length (yield ls)) ws) (f .2 ∙ same) (h .3) (h .4) back in
       ahead-more (length (yield ks)) (length (yield ls)) (beginnings ks) (beginnings ls)
-          (begins-first r (count ks) (length (yield ks)) ws ls (yield ds) (chosen .0) (h .0) (omega (arith, e)) k
-              (part-covers r (count ks) t ds (drop (length (yield ls)) ws) (same-place r (count ks) (count ls) (left g t) e (h .2)) (h .3) (h .4) (is-back (yield ls) (yield ds) ws k)))
-          (λ same. chosen-within r ks ls (take (length (yield ks)) ws) (omega (arith, e)) (f .0) (h .0) (is-front (yield ks) (yield cs) ws i) (rw same (is-front (yield ls) (yield ds) ws k)) (chosen .1))
-          (λ same. parts-lead ks ls s t cs ds
-              (lowest-leads s t cs ds (drop (length (yield ks)) ws) (chosen .2) (sym (same-symbol g apart r (count ks) (count ls) (left g s) (left g t) e (f .2) (h .2))) (h .3) (h .4) (rw same (is-back (yield ls) (yield ds) ws k))
-                  (λ one. chosen-within s cs ds (drop (length (yield ks)) ws) (whole-count g apart s t cs ds (f .4) (h .4) one) (f .3) (rw one (h .3)) (is-back (yield ks) (yield cs) ws i) (rw same (is-back (yield ls) (yield ds) ws k)) (chosen .3))))
+          (begins-first r (count ks) (length (yield ks)) ws ls (chosen .0) (h .0) (sym many) front covers)
+          (λ b. chosen-within r ks ls (take (length (yield ks)) ws) many (f .0) (h .0) (is-front (yield ks) (yield cs) ws i) (rw b front) (chosen .1))
+          (λ b. parts-lead ks ls s t cs ds (lowest-leads s t cs ds (drop (length (yield ks)) ws) (chosen .2) (sym same) (h .3) (h .4) (rw b back)
+              (λ one. chosen-within s cs ds (drop (length (yield ks)) ws) (whole-count g s t cs ds (f .4) (h .4) one) (f .3) (rw one (h .3)) (is-back (yield ks) (yield cs) ws i) (rw b back) (chosen .3))))
 
 -- the reading chosen part by part is the first
 pub choice-theorem : ChoiceTheorem
-choice-theorem m sound X ws t lowest chosen b = 
+choice-theorem m sound X ws t lowest chosen b =
     let apart = sound-apart m sound in
     let one = t .reading in
     let other = b .reading in
+    let many = whole-count (m .grammar) (one .by) (other .by) (one .children) (other .children) (one .whole) (other .whole) in
     lowest-leads (m .grammar) apart (one .by) (other .by) (one .children) (other .children) ws lowest (other .heads ∙ sym (one .heads)) (other .fits) (other .whole) (b .is)
-        (λ same. chosen-within (m .grammar) apart (one .by) (one .children) (other .children) ws (whole-count (m .grammar) apart (one .by) (other .by) (one .children) (other .children) (one .whole) (other .whole) same) (one .fits) (rw same (other .fits)) (t .is) (b .is) chosen)
+        (λ same. chosen-within (m .grammar) apart (one .by) (one .children) (other .children) ws (many same) (one .fits) (rw same (other .fits)) (t .is) (b .is) chosen)

@@ -68,7 +68,8 @@ parts-total ks ls s t cs ds (inl e) (inr (inr b)) = inr (inr (inr (sym (e .0), s
 parts-total ks ls s t cs ds (inr (inl a)) k = inr (inl (inl a))
 parts-total ks ls s t cs ds (inr (inr b)) k = inr (inr (inl b))
 
-module _ (g : Grammar) (apart : Apart g) where
+module _ (g : Grammar) where
+  -- all the children of one rule are as many as all the children of the same rule
   pub whole-count : (r q : ℕ) (ks ls : Children) → count ks ≡ size g r → count ls ≡ size g q → r ≡ q → count ks ≡ count ls
   whole-count r q ks ls a b e = a ∙ (ap (size g) e ∙ sym b)
 
@@ -76,24 +77,29 @@ module _ (g : Grammar) (apart : Apart g) where
   pub same-symbol : (r a b c d : ℕ) → suc a ≡ suc b → symbol g r a ≡ c → symbol g r b ≡ d → c ≡ d
   same-symbol r a b c d e p q = let same : a ≡ b = omega arith in sym p ∙ (ap (symbol g r) same ∙ q)
 
+module _ (g : Grammar) (apart : Apart g) where
+  -- one place of a rule does not hold a key and a part
+  pub not-both : (r a b c s : ℕ) (cs : Children) → suc a ≡ suc b → symbol g r a ≡ c → Key g c → symbol g r b ≡ left g s → Fits g s cs → ⊥
+  not-both r a b c s cs e p k q f = apart c s k (fits-numbered g s cs f) (same-symbol g r a b c (left g s) e p q)
+
   children-total : (r : ℕ) (ks ls : Children) → Fits g r ks → Fits g r ls → count ks ≡ count ls → Ordered (ks ≡ ls) (Inner ks ls) (Inner ls ks)
   children-total r none none f h e = inl refl
   children-total r none (key ls d) f h e = absurd (omega (arith, e))
   children-total r none (part ls t ds) f h e = absurd (omega (arith, e))
   children-total r (key ks c) none f h e = absurd (omega (arith, e))
   children-total r (key ks c) (key ls d) f h e =
-      map-ordered (λ same. ap₂ key same (same-symbol r (count ks) (count ls) c d e (f .2) (h .2))) (children-total r ks ls (f .0) (h .0) (omega (arith, e)))
+      map-ordered (λ same. ap₂ key same (same-symbol g r (count ks) (count ls) c d e (f .2) (h .2))) (children-total r ks ls (f .0) (h .0) (omega (arith, e)))
   children-total r (key ks c) (part ls t ds) f h e =
-      absurd (apart c t (f .3) (fits-numbered g t ds (h .3)) (same-symbol r (count ks) (count ls) c (left g t) e (f .2) (h .2)))
+      absurd (not-both r (count ks) (count ls) c t ds e (f .2) (f .3) (h .2) (h .3))
   children-total r (part ks s cs) none f h e = absurd (omega (arith, e))
   children-total r (part ks s cs) (key ls d) f h e =
-      absurd (apart d s (h .3) (fits-numbered g s cs (f .3)) (sym (same-symbol r (count ks) (count ls) (left g s) d e (f .2) (h .2))))
+      absurd (not-both r (count ls) (count ks) d s cs (sym e) (h .2) (h .3) (f .2) (f .3))
   children-total r (part ks s cs) (part ls t ds) f h e =
       parts-total ks ls s t cs ds
-          (top-total s t cs ds (whole-count s t cs ds (f .4) (h .4)) (λ same. children-total s cs ds (f .3) (rw same (h .3)) (whole-count s t cs ds (f .4) (h .4) same)))
+          (top-total s t cs ds (whole-count g s t cs ds (f .4) (h .4)) (λ same. children-total s cs ds (f .3) (rw same (h .3)) (whole-count g s t cs ds (f .4) (h .4) same)))
           (children-total r ks ls (f .0) (h .0) (omega (arith, e)))
 
   -- of two whole readings one comes first, or they are the same
   pub before-total : (r q : ℕ) (ks ls : Children) → Fits g r ks → Fits g q ls → count ks ≡ size g r → count ls ≡ size g q
       → Ordered ((r ≡ q) × (ks ≡ ls)) (Before r ks q ls) (Before q ls r ks)
-  before-total r q ks ls f h a b = top-total r q ks ls (whole-count r q ks ls a b) (λ same. children-total r ks ls f (rw same h) (whole-count r q ks ls a b same))
+  before-total r q ks ls f h a b = top-total r q ks ls (whole-count g r q ks ls a b) (λ same. children-total r ks ls f (rw same h) (whole-count g r q ks ls a b same))
