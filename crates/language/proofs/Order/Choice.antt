@@ -1,17 +1,17 @@
 -- The reading that is chosen part by part is the first.
-use mathlib.Core.Path.{_≡_, refl, sym, _∙_, ap, ap₂, subst}
+use mathlib.Core.Path.{_≡_, refl, sym, _∙_, ap₂}
 use mathlib.Core.Logic.{_⊎_, inl, inr, ⊎-elim}
-use mathlib.Core.List.{List, [], _∷_, _++_}
-use Prim.Native.Nat.{ℕ, suc, _<_, _≤_}
+use mathlib.Core.List.{List, [], _∷_}
+use Prim.Native.Nat.{ℕ, _≤_}
 use native.Mathlib.Omega.{arith}
 use lib.ListN.{length, take, drop}
 use Rattle.std.proofs.shelf.Tests.{cases-lt}
 use Rattle.language.specs.Book.{Grammar, Key, left, size, symbol}
 use Rattle.language.specs.Words.{Word, Is}
-use Rattle.language.specs.Readings.{Children, none, key, part, yield, count, Fits, Done, Reads}
-use Rattle.language.specs.Order.{beginnings, Earlier, Top, Inner, Before}
+use Rattle.language.specs.Readings.{Children, none, key, part, yield, count, Fits}
+use Rattle.language.specs.Order.{beginnings, Earlier, Inner, Before}
 use Rattle.language.specs.Choice.{Covers, word, reading, Lowest, Earliest, Chosen, ChoiceTheorem}
-use Rattle.language.proofs.Words.{Single, is-front, is-back, is-single}
+use Rattle.language.proofs.Words.{is-front, is-back, is-single}
 use Rattle.language.proofs.Order.Total.{Apart, sound-apart, same-symbol, whole-count, not-both}
 
 -- beginnings are earlier, or the same and so is what follows, or that comes first
@@ -80,9 +80,9 @@ module _ (g : Grammar) (apart : Apart g) where
       let front = is-front (yield ls) (d ∷ []) ws k in
       let covers = key-covers r (count ks) d (drop (length (yield ls)) ws) (f .2 ∙ same) (h .3) (is-back (yield ls) (d ∷ []) ws k) in
       ahead-more (length (yield ks)) (length (yield ls)) (beginnings ks) (beginnings ls)
-          (begins-first r (count ks) (length (yield ks)) ws ls (chosen .0) (h .0) (sym many) front covers)
-          (λ b. chosen-within r ks ls (take (length (yield ks)) ws) many (f .0) (h .0) (is-front (yield ks) (c ∷ []) ws i) (rw b front) (chosen .1))
-          (λ b o. ⊎-elim (λ p. inl (ap₂ key p same)) inr o)
+      (begins-first r (count ks) (length (yield ks)) ws ls (chosen .0) (h .0) (sym many) front covers)
+      (λ b. chosen-within r ks ls (take (length (yield ks)) ws) many (f .0) (h .0) (is-front (yield ks) (c ∷ []) ws i) (rw b front) (chosen .1))
+      (λ b o. ⊎-elim (λ p. inl (ap₂ key p same)) inr o)
   chosen-within r (key ks c) (part ls t ds) ws e f h i k chosen = absurd (not-both g apart r (count ks) (count ls) c t ds e (f .2) (f .3) (h .2) (h .3))
   chosen-within r (part ks s cs) none ws e f h i k chosen = absurd (omega (arith, e))
   chosen-within r (part ks s cs) (key ls d) ws e f h i k chosen = absurd (not-both g apart r (count ls) (count ks) d s cs (sym e) (h .2) (h .3) (f .2) (f .3))
@@ -93,10 +93,10 @@ module _ (g : Grammar) (apart : Apart g) where
       let back = is-back (yield ls) (yield ds) ws k in
       let covers = part-covers r (count ks) t ds (drop (length (yield ls)) ws) (f .2 ∙ same) (h .3) (h .4) back in
       ahead-more (length (yield ks)) (length (yield ls)) (beginnings ks) (beginnings ls)
-          (begins-first r (count ks) (length (yield ks)) ws ls (chosen .0) (h .0) (sym many) front covers)
-          (λ b. chosen-within r ks ls (take (length (yield ks)) ws) many (f .0) (h .0) (is-front (yield ks) (yield cs) ws i) (rw b front) (chosen .1))
-          (λ b. parts-lead ks ls s t cs ds (lowest-leads s t cs ds (drop (length (yield ks)) ws) (chosen .2) (sym same) (h .3) (h .4) (rw b back)
-              (λ one. chosen-within s cs ds (drop (length (yield ks)) ws) (whole-count g s t cs ds (f .4) (h .4) one) (f .3) (rw one (h .3)) (is-back (yield ks) (yield cs) ws i) (rw b back) (chosen .3))))
+      (begins-first r (count ks) (length (yield ks)) ws ls (chosen .0) (h .0) (sym many) front covers)
+      (λ b. chosen-within r ks ls (take (length (yield ks)) ws) many (f .0) (h .0) (is-front (yield ks) (yield cs) ws i) (rw b front) (chosen .1))
+      (λ b. parts-lead ks ls s t cs ds (lowest-leads s t cs ds (drop (length (yield ks)) ws) (chosen .2) (sym same) (h .3) (h .4) (rw b back)
+      (λ one. chosen-within s cs ds (drop (length (yield ks)) ws) (whole-count g s t cs ds (f .4) (h .4) one) (f .3) (rw one (h .3)) (is-back (yield ks) (yield cs) ws i) (rw b back) (chosen .3))))
 
 -- the reading chosen part by part is the first
 pub choice-theorem : ChoiceTheorem
@@ -106,4 +106,4 @@ choice-theorem m sound X ws t lowest chosen b =
     let other = b .reading in
     let many = whole-count (m .grammar) (one .by) (other .by) (one .children) (other .children) (one .whole) (other .whole) in
     lowest-leads (m .grammar) apart (one .by) (other .by) (one .children) (other .children) ws lowest (other .heads ∙ sym (one .heads)) (other .fits) (other .whole) (b .is)
-        (λ same. chosen-within (m .grammar) apart (one .by) (one .children) (other .children) ws (many same) (one .fits) (rw same (other .fits)) (t .is) (b .is) chosen)
+    (λ same. chosen-within (m .grammar) apart (one .by) (one .children) (other .children) ws (many same) (one .fits) (rw same (other .fits)) (t .is) (b .is) chosen)

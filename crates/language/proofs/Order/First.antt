@@ -2,18 +2,18 @@
 use mathlib.Core.Path.{_≡_, refl, sym, _∙_, ap, ap₂, subst, subst₂}
 use mathlib.Core.Logic.{_⊎_, inl, inr, ⊎-elim}
 use mathlib.Core.List.{List}
-use Prim.Native.Nat.{ℕ, suc, _*_, _-_, _<_, _≤_}
+use Prim.Native.Nat.{ℕ, suc, _<_, _*_, _-_, _≤_}
 use native.Mathlib.Decide.{ℕ-discrete}
 use native.Mathlib.Omega.{arith}
 use lib.ListN.{length}
 use Rattle.language.specs.Book.{Grammar, Meaning, left, size}
 use Rattle.language.specs.Sound.{Sound}
-use Rattle.language.specs.Words.{Word, Is}
-use Rattle.language.specs.Readings.{Children, yield, count, Fits, Reads}
+use Rattle.language.specs.Words.{Word}
+use Rattle.language.specs.Readings.{Children, Reads}
 use Rattle.language.specs.Moves.{below}
-use Rattle.language.specs.Order.{Before, Same, Least, First, FirstIs, FirstTheorem}
-use Rattle.language.proofs.Order.Listed.{Listed, Below, Made, NotAfter, LeastOf, listed-one, listed-same, listed-when, listed-below, listed-made, least-listed}
-use Rattle.language.proofs.Order.Shallow.{Shallow, depth-below, listed-shallow}
+use Rattle.language.specs.Order.{Before, Same, First, FirstTheorem}
+use Rattle.language.proofs.Order.Listed.{Listed, Below, Made, listed-one, listed-same, listed-when, listed-below, listed-made, least-listed}
+use Rattle.language.proofs.Order.Shallow.{Shallow, depth, depth-below, listed-shallow}
 use Rattle.language.proofs.Order.Strict.{before-trans, before-irreflexive}
 use Rattle.language.proofs.Order.Total.{Apart, sound-apart, fits-numbered, before-total}
 
@@ -65,7 +65,8 @@ module _ (g : Grammar) (X : ℕ) (ws : List Word) (n : ℕ) (bounded : (t : Read
   rule-by : (t : Tree) → Read g X ws t → Below ByRule (suc (length (g .rules))) t
   rule-by t (a, e) =
       let r = a .reading in
-      let shallow : Shallow g n (r .by) (size g (r .by)) ws (r .children) = record { fits = r .fits; many = r .whole; is = a .is; deep = omega (arith, bounded a, depth-below (r .children)) } in
+      let few : depth (r .children) < n = omega (arith, bounded a, depth-below (r .children)) in
+      let shallow : Shallow g n (r .by) (size g (r .by)) ws (r .children) = record { fits = r .fits; many = r .whole; is = a .is; deep = few } in
       (r .by, omega (arith, fits-numbered g (r .by) (r .children) (r .fits) .high), (r .heads, (r .by, r .children, refl, shallow, sym e)))
 
   listed-by : (r : ℕ) → Listed (ByRule r)
@@ -83,7 +84,10 @@ module _ (g : Grammar) (X : ℕ) (ws : List Word) (n : ℕ) (bounded : (t : Read
       let (a, e) = found .holds in
       record {
         reads = a;
-        least = λ b. ⊎-elim (λ same. inl (ap (λ x. x .by) (e ∙ same), ap (λ x. x .children) (e ∙ same))) (λ h. inr (subst (λ x. Comes x (tree-of b)) (sym e) h)) (found .least (tree-of b) (b, refl));
+        least = λ b. ⊎-elim
+            (λ same. inl (ap (λ x. x .by) (e ∙ same), ap (λ x. x .children) (e ∙ same)))
+            (λ h. inr (subst (λ x. Comes x (tree-of b)) (sym e) h))
+            (found .least (tree-of b) (b, refl));
       }
 
 -- how many rules a reading of so many words can have

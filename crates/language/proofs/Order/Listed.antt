@@ -15,9 +15,11 @@ pub record Listed {A : Type 0} (P : A → Type 0) : Type 0 where
   pub each : All P list
   pub every : (a : A) → P a → List·Memᴰ a list
 
+-- nothing has the property
 pub listed-none : {A : Type 0} (P : A → Type 0) → ((a : A) → P a → ⊥) → Listed P
 listed-none P never = record { list = []; each = tt; every = λ a p. absurd (never a p) }
 
+-- one thing has it
 pub listed-one : {A : Type 0} (x : A) → Listed (λ a. a ≡ x)
 listed-one x = record { list = x ∷ []; each = (refl, tt); every = λ a e. List·Memᴰ·head e }
 
@@ -49,6 +51,7 @@ below-more P n a (inr p) = (n, omega arith, p)
 below-cases : {A : Type 0} (P : ℕ → A → Type 0) (n : ℕ) (a : A) → Below P (suc n) a → Below P n a ⊎ P n a
 below-cases P n a (i, h, p) = ⊎-elim (λ l. inl (i, l, p)) (λ l. let same : i ≡ n = omega arith in inr (subst (λ x. P x a) same p)) (cases-lt i n)
 
+-- all that have it at some number below n
 pub listed-below : {A : Type 0} (P : ℕ → A → Type 0) → ((i : ℕ) → Listed (P i)) → (n : ℕ) → Listed (Below P n)
 listed-below P l zero = listed-none (Below P 0) (λ a p. omega (arith, p .1))
 listed-below P l (suc n) =
@@ -63,13 +66,14 @@ module _ {A B C : Type 0} (f : A → B → C) (P : A → Type 0) (Q : B → Type
   made-each [] ys ps qs = tt
   made-each (x ∷ xs) ys ps qs =
       all-append Made (map (f x) ys) (joined (λ a. map (f a) ys) xs)
-          (all-map Made (f x) ys (all-weaker Q (λ b. Made (f x b)) (λ b q. (x, b, ps .0, q, refl)) ys qs))
-          (made-each xs ys (ps .1) qs)
+      (all-map Made (f x) ys (all-weaker Q (λ b. Made (f x b)) (λ b q. (x, b, ps .0, q, refl)) ys qs))
+      (made-each xs ys (ps .1) qs)
 
   made-every : {a : A} {b : B} {xs : List A} (ys : List B) → List·Memᴰ a xs → List·Memᴰ b ys → List·Memᴰ (f a b) (joined (λ x. map (f x) ys) xs)
   made-every {a} {b} ys (List·Memᴰ·head {x = x} {xs = xs} e) m = Memᴰ·append-left (joined (λ z. map (f z) ys) xs) (Memᴰ·cast (ap (λ z. f z b) e) (Memᴰ·map (f x) m))
   made-every ys (List·Memᴰ·tail {x = x} l) m = Memᴰ·append-right (map (f x) ys) (made-every ys l m)
 
+  -- all that is made so
   pub listed-made : Listed P → Listed Q → Listed Made
   listed-made l k = record {
     list = joined (λ a. map (f a) (k .list)) (l .list);
@@ -88,6 +92,7 @@ module _ {A : Type 0} (R : A → A → Type 0) (trans : (a b c : A) → R a b �
   not-after-trans a b c (inr h) (inl e) = inr (subst (R a) e h)
   not-after-trans a b c (inr h) (inr k) = inr (trans a b c h k)
 
+  -- an example, the same as or before all that have the property Q
   pub record LeastOf (Q : A → Type 0) : Type 0 where
     pub one : A
     pub holds : P one
@@ -110,6 +115,7 @@ module _ {A : Type 0} (R : A → A → Type 0) (trans : (a b c : A) → R a b �
         least = λ b o. ⊎-elim (than a b ca) (λ m. ⊎-elim (than x b cx) (λ n. rest .least b (inr n)) (List·Memᴰ·cases-cons m)) o;
       }
 
+  -- the least of all examples, if there is one
   pub least-listed : Listed P → (a : A) → P a → LeastOf P
   least-listed l a p =
       let found = least-among (l .list) (l .each) a p in

@@ -22,6 +22,7 @@ depth none = 0
 depth (key ks c) = depth ks
 depth (part ks s cs) = max (depth ks) (suc (depth cs))
 
+-- no more than there are rules
 pub depth-below : (ks : Children) → depth ks ≤ below ks
 depth-below none = omega arith
 depth-below (key ks c) = depth-below ks
@@ -66,9 +67,11 @@ module _ (g : Grammar) (m r d : ℕ) (ws : List Word) where
   abbrev PartAt : ℕ → ℕ → Children → Type 0
   PartAt j s ks = ((d < size g r) × (symbol g r d ≡ left g s)) × Made (λ a b. part a s b) (Shallow g (suc m) r d (take j ws)) (Shallow g m s (size g s) (drop j ws)) ks
 
+  -- the last of the children is a key or a part
   abbrev LastAt : ℕ → Children → Type 0
   LastAt j ks = KeyAt j ks ⊎ Below (PartAt j) (suc (length (g .rules))) ks
 
+  -- words in two shares
   together : (j : ℕ) (p q : List ℕ) → Is p (take j ws) → Is q (drop j ws) → Is (p ++ q) ws
   together j p q h k = subst (Is (p ++ q)) (take-append-drop j ws) (is-append p (take j ws) q (drop j ws) h k)
 
@@ -88,6 +91,7 @@ module _ (g : Grammar) (m r d : ℕ) (ws : List Word) where
     deep = omega arith;
   })
 
+  -- children with such a last one are those children, and each of those has one
   last-shallow : (ks : Children) → Below LastAt (suc (length ws)) ks → Shallow g (suc m) r (suc d) ws ks
   last-shallow ks (j, h, o) = ⊎-elim (key-shallow j ks) (λ p. part-shallow j (p .0) ks (p .2)) o
 
@@ -102,22 +106,25 @@ module _ (g : Grammar) (m r d : ℕ) (ws : List Word) where
       let same : symbol g r d ≡ c = ap (symbol g r) (sym e) ∙ h .fits .2 in
       let front = is-front (yield ks) (c ∷ []) ws (h .is) in
       let back = is-back (yield ks) (c ∷ []) ws (h .is) in
-      (length (yield ks), front-length (yield ks) (c ∷ []) (h .is), inl (
-          (omega (arith, e, h .fits .1), (rw same (h .fits .3), rw same back)),
-          (ks, c, record { fits = h .fits .0; many = e; is = front; deep = h .deep }, sym same, refl)))
+      let before : Shallow g (suc m) r d (take (length (yield ks)) ws) ks = record { fits = h .fits .0; many = e; is = front; deep = h .deep } in
+      let last : KeyAt (length (yield ks)) (key ks c) = ((omega (arith, e, h .fits .1), (rw same (h .fits .3), rw same back)), (ks, c, before, sym same, refl)) in
+      (length (yield ks), front-length (yield ks) (c ∷ []) (h .is), inl last)
   shallow-last (part ks s cs) h =
       let e : count ks ≡ d = omega (arith, h .many) in
       let same : symbol g r d ≡ left g s = ap (symbol g r) (sym e) ∙ h .fits .2 in
       let front = is-front (yield ks) (yield cs) ws (h .is) in
       let back = is-back (yield ks) (yield cs) ws (h .is) in
-      (length (yield ks), front-length (yield ks) (yield cs) (h .is), inr (s, omega (arith, fits-numbered g s cs (h .fits .3) .high), (
-          (omega (arith, e, h .fits .1), same),
-          (ks, cs, record { fits = h .fits .0; many = e; is = front; deep = omega (arith, h .deep) }, record { fits = h .fits .3; many = h .fits .4; is = back; deep = omega (arith, h .deep) }, refl))))
+      let before : Shallow g (suc m) r d (take (length (yield ks)) ws) ks = record { fits = h .fits .0; many = e; is = front; deep = omega (arith, h .deep) } in
+      let child : Shallow g m s (size g s) (drop (length (yield ks)) ws) cs = record { fits = h .fits .3; many = h .fits .4; is = back; deep = omega (arith, h .deep) } in
+      let last : PartAt (length (yield ks)) s (part ks s cs) = ((omega (arith, e, h .fits .1), same), (ks, cs, before, child, refl)) in
+      (length (yield ks), front-length (yield ks) (yield cs) (h .is), inr (s, omega (arith, fits-numbered g s cs (h .fits .3) .high), last))
 
 -- one more place, where the places before it and the readings of parts with fewer rules below can be listed
 module _ (g : Grammar) (m : ℕ) (lower : (s : ℕ) (ws : List Word) → Listed (Shallow g m s (size g s) ws)) where
   listed-start : (r : ℕ) (ws : List Word) → Listed (Shallow g (suc m) r 0 ws)
-  listed-start r ws = listed-same (λ ks. (Numbered g r × Is [] ws) × (ks ≡ none)) (Shallow g (suc m) r 0 ws) to from (listed-when (λ ks. ks ≡ none) (both-dec (dec-numbered g r) (dec-is [] ws)) (listed-one none))
+  listed-start r ws =
+      let decided = both-dec (dec-numbered g r) (dec-is [] ws) in
+      listed-same (λ ks. (Numbered g r × Is [] ws) × (ks ≡ none)) (Shallow g (suc m) r 0 ws) to from (listed-when (λ ks. ks ≡ none) decided (listed-one none))
     where
       to : (ks : Children) → (Numbered g r × Is [] ws) × (ks ≡ none) → Shallow g (suc m) r 0 ws ks
       to ks ((n, h), e) = subst (Shallow g (suc m) r 0 ws) (sym e) (record { fits = n; many = refl; is = h; deep = omega arith })
@@ -130,8 +137,9 @@ module _ (g : Grammar) (m : ℕ) (lower : (s : ℕ) (ws : List Word) → Listed 
   listed-key : (r d : ℕ) (ws : List Word) (j : ℕ) → Listed (Shallow g (suc m) r d (take j ws)) → Listed (KeyAt g m r d ws j)
   listed-key r d ws j front =
       let c = symbol g r d in
-      let front-made = listed-made key (Shallow g (suc m) r d (take j ws)) (λ x. x ≡ c) front (listed-one c) in
-      listed-when (Made key (Shallow g (suc m) r d (take j ws)) (λ x. x ≡ c)) (both-dec (decLt d (size g r)) (both-dec (dec-key g c) (dec-is (c ∷ []) (drop j ws)))) front-made
+      let P = Shallow g (suc m) r d (take j ws) in
+      let decided = both-dec (decLt d (size g r)) (both-dec (dec-key g c) (dec-is (c ∷ []) (drop j ws))) in
+      listed-when (Made key P (λ x. x ≡ c)) decided (listed-made key P (λ x. x ≡ c) front (listed-one c))
 
   listed-part : (r d : ℕ) (ws : List Word) (j : ℕ) → Listed (Shallow g (suc m) r d (take j ws)) → (s : ℕ) → Listed (PartAt g m r d ws j s)
   listed-part r d ws j front s =

@@ -1,8 +1,8 @@
 -- The order of readings is transitive and irreflexive.
-use mathlib.Core.Path.{_≡_, refl, sym, _∙_, subst₂}
+use mathlib.Core.Path.{_≡_, sym, _∙_, subst₂}
 use mathlib.Core.Logic.{_⊎_, inl, inr}
 use mathlib.Core.List.{List, [], _∷_}
-use Prim.Native.Nat.{ℕ, _<_}
+use Prim.Native.Nat.{ℕ}
 use native.Mathlib.Omega.{arith}
 use Rattle.language.specs.Readings.{Children, none, key, part}
 use Rattle.language.specs.Order.{beginnings, Earlier, Top, Inner, Before}

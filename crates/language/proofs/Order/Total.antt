@@ -2,19 +2,20 @@
 use mathlib.Core.Path.{_≡_, refl, sym, _∙_, ap, ap₂}
 use mathlib.Core.Logic.{_⊎_, inl, inr, ⊎-elim}
 use mathlib.Core.List.{List, [], _∷_}
-use Prim.Native.Nat.{ℕ, suc, _<_}
+use Prim.Native.Nat.{ℕ, suc}
 use native.Mathlib.Omega.{arith}
 use lib.ListN.{length}
 use Rattle.std.proofs.shelf.Tests.{cases-order}
 use Rattle.language.specs.Book.{Grammar, Meaning, Key, Numbered, left, size, symbol}
 use Rattle.language.specs.Sound.{Sound}
 use Rattle.language.specs.Readings.{Children, none, key, part, count, Fits}
-use Rattle.language.specs.Order.{beginnings, Earlier, Top, Inner, Before}
+use Rattle.language.specs.Order.{beginnings, Earlier, Inner, Before}
 
 -- no key is the left side of a rule
 abbrev pub Apart : Grammar → Type 0
 Apart g = (c s : ℕ) → Key g c → Numbered g s → c ≡ left g s → ⊥
 
+-- in a sound book parts end at 32 and keys begin at 33
 pub sound-apart : (m : Meaning) → Sound m → Apart (m .grammar)
 sound-apart m sound c s k n e = omega (arith, k .low, sound .formed .rules s n .turns .high, sound .formed .counts .few-parts, e)
 
@@ -53,14 +54,14 @@ length-beginnings (part ks s cs) = ap suc (length-beginnings ks)
 -- readings by two rules, where the children of one rule are told apart
 top-total : (r q : ℕ) (ks ls : Children) → (r ≡ q → count ks ≡ count ls) → (r ≡ q → Ordered (ks ≡ ls) (Inner ks ls) (Inner ls ks))
     → Ordered ((r ≡ q) × (ks ≡ ls)) (Before r ks q ls) (Before q ls r ks)
-top-total r q ks ls many below = both-ordered (q ≡ r) sym (cases-order r q) (λ e. map-ordered (λ t. t .1) (begun e))
-  where
-    begun : r ≡ q → Ordered ((beginnings ks ≡ beginnings ls) × (ks ≡ ls)) (Earlier (beginnings ks) (beginnings ls) ⊎ ((beginnings ks ≡ beginnings ls) × Inner ks ls)) (Earlier (beginnings ls) (beginnings ks) ⊎ ((beginnings ls ≡ beginnings ks) × Inner ls ks))
-    begun e =
-        let long = length-beginnings ks ∙ (many e ∙ sym (length-beginnings ls)) in
-        both-ordered (beginnings ls ≡ beginnings ks) sym (earlier-total (beginnings ks) (beginnings ls) long) (λ b. below e)
+top-total r q ks ls many below = both-ordered (q ≡ r) sym (cases-order r q) (λ e.
+    let long = length-beginnings ks ∙ (many e ∙ sym (length-beginnings ls)) in
+    map-ordered (λ t. t .1) (both-ordered (beginnings ls ≡ beginnings ks) sym (earlier-total (beginnings ks) (beginnings ls) long) (λ b. below e)))
 
-parts-total : (ks ls : Children) (s t : ℕ) (cs ds : Children) → Ordered ((s ≡ t) × (cs ≡ ds)) (Before s cs t ds) (Before t ds s cs) → Ordered (ks ≡ ls) (Inner ks ls) (Inner ls ks)
+-- children whose last is a part
+parts-total : (ks ls : Children) (s t : ℕ) (cs ds : Children)
+    → Ordered ((s ≡ t) × (cs ≡ ds)) (Before s cs t ds) (Before t ds s cs)
+    → Ordered (ks ≡ ls) (Inner ks ls) (Inner ls ks)
     → Ordered (part ks s cs ≡ part ls t ds) (Inner (part ks s cs) (part ls t ds)) (Inner (part ls t ds) (part ks s cs))
 parts-total ks ls s t cs ds (inl e) (inl k) = inl (cc (e .0, e .1))
 parts-total ks ls s t cs ds (inl e) (inr (inl a)) = inr (inl (inr (e .0, e .1, a)))
@@ -96,8 +97,8 @@ module _ (g : Grammar) (apart : Apart g) where
       absurd (not-both r (count ls) (count ks) d s cs (sym e) (h .2) (h .3) (f .2) (f .3))
   children-total r (part ks s cs) (part ls t ds) f h e =
       parts-total ks ls s t cs ds
-          (top-total s t cs ds (whole-count g s t cs ds (f .4) (h .4)) (λ same. children-total s cs ds (f .3) (rw same (h .3)) (whole-count g s t cs ds (f .4) (h .4) same)))
-          (children-total r ks ls (f .0) (h .0) (omega (arith, e)))
+      (top-total s t cs ds (whole-count g s t cs ds (f .4) (h .4)) (λ same. children-total s cs ds (f .3) (rw same (h .3)) (whole-count g s t cs ds (f .4) (h .4) same)))
+      (children-total r ks ls (f .0) (h .0) (omega (arith, e)))
 
   -- of two whole readings one comes first, or they are the same
   pub before-total : (r q : ℕ) (ks ls : Children) → Fits g r ks → Fits g q ls → count ks ≡ size g r → count ls ≡ size g q
