@@ -3,6 +3,7 @@ pub mod Corners
 pub mod Fits
 pub mod Masks
 pub mod Moves
+pub mod Order
 pub mod Pigeonhole
 pub mod Told
 pub mod Words
