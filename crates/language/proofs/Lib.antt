@@ -1,3 +1,4 @@
+pub mod Chart
 pub mod Masks
 pub mod Told
 pub mod Words

@@ -1,0 +1,4 @@
+pub mod Between
+pub mod Done
+pub mod Fair
+pub mod Turned

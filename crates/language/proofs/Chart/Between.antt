@@ -1,0 +1,57 @@
+-- The words between two places, put together and taken apart.
+use mathlib.Core.Path.{_≡_, sym, ap, _∙_}
+use mathlib.Core.List.{List, [], _∷_, _++_}
+use Prim.Native.Nat.{ℕ, zero, suc, _+_, _-_, _<_, _≤_}
+use native.Mathlib.Omega.{arith}
+use lib.Dec.{T}
+use lib.ListN.{length, getD, take, drop, length-drop}
+use lib.Seq.{take-add, take-take, drop-drop, drop-cons, length-take-le}
+use Rattle.std.proofs.shelf.Lists.{drop-take}
+use Rattle.language.specs.Words.{Word, blank}
+use Rattle.language.specs.Theorem.{between}
+
+-- a place whose word matches a key is in the words
+pub matched-within : (ws : List Word) (j c : ℕ) → T (getD ws j blank c) → j < length ws
+matched-within [] j c h = absurd h
+matched-within (w ∷ ws) zero c h = omega arith
+matched-within (w ∷ ws) (suc j) c h = omega (arith, matched-within ws j c h)
+
+module _ (ws : List Word) where
+  pub length-between : (i k : ℕ) → i ≤ k → k ≤ length ws → length (between i k ws) ≡ k - i
+  length-between i k h l = length-take-le (k - i) (drop i ws) (omega (arith, length-drop i ws))
+
+  -- all words, and the first k
+  pub between-first : (k : ℕ) → between 0 k ws ≡ take k ws
+  between-first k = ap (λ n. take n ws) (omega arith)
+
+  -- no word
+  pub between-none : (k : ℕ) → between k k ws ≡ []
+  between-none k = let e : k - k ≡ 0 = omega arith in ap (λ n. take n (drop k ws)) e
+
+  -- one word
+  pub between-one : (j : ℕ) → j < length ws → between j (suc j) ws ≡ getD ws j blank ∷ []
+  between-one j h =
+      let e : suc j - j ≡ 1 = omega arith in
+      ap (λ n. take n (drop j ws)) e ∙ ap (take 1) (drop-cons ws j blank h)
+
+  -- put together
+  pub between-join : (i j k : ℕ) → i ≤ j → j ≤ k → between i j ws ++ between j k ws ≡ between i k ws
+  between-join i j k h l =
+      let a : (j - i) + (k - j) ≡ k - i = omega arith in
+      let b : i + (j - i) ≡ j = omega arith in
+      sym (ap (λ n. take n (drop i ws)) (sym a) ∙ (take-add (j - i) (k - j) (drop i ws)
+          ∙ ap (λ us. between i j ws ++ take (k - j) us) (drop-drop (j - i) i ws ∙ ap (λ n. drop n ws) b)))
+
+  pub take-between : (i k : ℕ) → i ≤ k → take i ws ++ between i k ws ≡ take k ws
+  take-between i k h = ap (λ us. us ++ between i k ws) (sym (between-first i)) ∙ (between-join 0 i k (omega arith) h ∙ between-first k)
+
+  -- taken apart
+  pub between-front : (i k n : ℕ) → i + n ≤ k → take n (between i k ws) ≡ between i (i + n) ws
+  between-front i k n h =
+      let e : n ≡ i + n - i = omega arith in
+      take-take n (k - i) (drop i ws) (omega arith) ∙ ap (λ m. take m (drop i ws)) e
+
+  pub between-back : (i k n : ℕ) → i + n ≤ k → drop n (between i k ws) ≡ between (i + n) k ws
+  between-back i k n h =
+      let e : k - i ≡ n + (k - (i + n)) = omega arith in
+      ap (λ m. drop n (take m (drop i ws))) e ∙ (drop-take n (k - (i + n)) (drop i ws) ∙ ap (take (k - (i + n))) (drop-drop n i ws))

@@ -1,0 +1,98 @@
+-- What an item and a span of the chart say of their own words.
+use mathlib.Core.Path.{_≡_, refl, sym, ap, subst, _∙_}
+use mathlib.Core.Logic.{_⊎_, inl, inr, ⊎-elim}
+use mathlib.Core.List.{List, [], _∷_, _++_}
+use Prim.Native.Nat.{ℕ, suc, _<_, _≤_}
+use native.Mathlib.Omega.{arith}
+use lib.Dec.{T}
+use lib.ListN.{length, getD}
+use Rattle.language.specs.Book.{Grammar, Key, Numbered, left, size, symbol}
+use Rattle.language.specs.Words.{Word, blank, Is}
+use Rattle.language.specs.Readings.{Children, none, key, part, yield, count, Fits, Reading, Done, Reads}
+use Rattle.language.specs.Chart.{Wanted, Held, begin, advance, Spans, finished}
+use Rattle.language.specs.Choice.{Covers, reading}
+use Rattle.language.specs.Theorem.{between}
+use Rattle.language.proofs.Words.{is-append, single-is, is-single}
+use Rattle.language.proofs.Chart.Between.{matched-within, between-one, between-join}
+use Rattle.language.proofs.Chart.Turned.{Tree, leaves, push, push-fits, push-count, push-yield}
+
+module _ (g : Grammar) where
+  -- a symbol that reads words has a tree that does, and the other way round
+  pub record Grown (X : ℕ) (vs : List Word) : Type 0 where
+    pub tree : Tree g X
+    pub is : Is (leaves g X tree) vs
+
+  pub covers-grown : (X : ℕ) (vs : List Word) → Covers g X vs → Grown X vs
+  covers-grown X vs (Covers.word w h m) = record { tree = inl h; is = single-is X w m }
+  covers-grown X vs (Covers.reading vs h) = record { tree = inr (h .reading); is = h .is }
+
+  pub tree-covers : (X : ℕ) (vs : List Word) (t : Tree g X) → Is (leaves g X t) vs → Covers g X vs
+  tree-covers X vs (inl h) is =
+      let one = is-single X vs is in
+      subst (Covers g X) (sym (one .is)) (Covers.word (one .word) h (one .matches))
+  tree-covers X vs (inr t) is = Covers.reading vs (record { reading = t; is = is })
+
+  -- no symbol done
+  pub done-none : (r : ℕ) → Numbered g r → Done g r 0 []
+  done-none r n = record { children = none; fits = n; many = refl; is = record { begins = tt; long = refl } }
+
+  -- one more symbol done
+  pub done-more : (r d : ℕ) (us vs : List Word) → Done g r d us → d < size g r → Covers g (symbol g r d) vs → Done g r (suc d) (us ++ vs)
+  done-more r d us vs h l c =
+      let X = symbol g r d in
+      let t = covers-grown X vs c in
+      record {
+        children = push g X (h .children) (t .tree);
+        fits = push-fits g X r (h .children) (t .tree) (h .fits) (omega (arith, h .many)) (ap (symbol g r) (h .many));
+        many = push-count g X (h .children) (t .tree) ∙ ap suc (h .many);
+        is = subst (λ p. Is p (us ++ vs)) (sym (push-yield g X (h .children) (t .tree))) (is-append (yield (h .children)) us (leaves g X (t .tree)) vs (h .is) (t .is));
+      }
+
+  -- all symbols done
+  pub done-reads : (r : ℕ) (vs : List Word) → Done g r (size g r) vs → Reads g (left g r) vs
+  done-reads r vs h = record {
+    reading = record { by = r; children = h .children; heads = refl; fits = h .fits; whole = h .many };
+    is = h .is;
+  }
+
+module _ (g : Grammar) (ws : List Word) where
+  -- an item ends within the words, and its symbols done read the words between
+  pub record HeldIs (r d i k : ℕ) : Type 0 where
+    pub done : Done g r d (between i k ws)
+    pub some : 1 ≤ d
+    pub forward : i ≤ k
+    pub ends : k ≤ length ws
+
+  -- a span ends within the words, and its symbol reads the words between
+  pub record SpansIs (X j k : ℕ) : Type 0 where
+    pub covers : Covers g X (between j k ws)
+    pub forward : j ≤ k
+    pub ends : k ≤ length ws
+
+  held-more : (r d i j k : ℕ) → Done g r d (between i j ws) → i ≤ j → d < size g r → SpansIs (symbol g r d) j k → HeldIs r (suc d) i k
+  held-more r d i j k h f l s = record {
+    done = subst (Done g r (suc d)) (between-join ws i j k f (s .forward)) (done-more g r d (between i j ws) (between j k ws) h l (s .covers));
+    some = omega arith;
+    forward = omega arith;
+    ends = s .ends;
+  }
+
+  spans-word : (c j : ℕ) → Key g c → T (getD ws j blank c) → SpansIs c j (suc j)
+  spans-word c j h m =
+      let l = matched-within ws j c m in
+      record {
+        covers = subst (Covers g c) (sym (between-one ws j l)) (Covers.word (getD ws j blank) h m);
+        forward = omega arith;
+        ends = l;
+      }
+
+  mutual
+    pub held-is : (r d i k : ℕ) → Held g ws r d i k → HeldIs r d i k
+    held-is r d i k (begin r i k n w s) = ?
+    held-is r d i k (advance r d′ i j k h l s) = let b = held-is r d′ i j h in held-more r d′ i j k (b .done) (b .forward) l (spans-is (symbol g r d′) j k s)
+
+    pub spans-is : (X j k : ℕ) → Spans g ws X j k → SpansIs X j k
+    spans-is X j k (Spans.word c j h m) = spans-word c j h m
+    spans-is X j k (finished r j k h) =
+        let b = held-is r (size g r) j k h in
+        record { covers = Covers.reading (between j k ws) (done-reads g r (between j k ws) (b .done)); forward = b .forward; ends = b .ends }
