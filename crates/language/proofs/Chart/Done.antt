@@ -13,7 +13,8 @@ use Rattle.language.specs.Chart.{Wanted, Held, begin, advance, Spans, finished
 use Rattle.language.specs.Choice.{Covers, reading}
 use Rattle.language.specs.Theorem.{between}
 use Rattle.language.proofs.Words.{is-append, single-is, is-single}
-use Rattle.language.proofs.Chart.Between.{matched-within, between-one, between-join}
+use Rattle.language.proofs.Chart.Between.{matched-within, between-none, between-one, between-join}
+use Rattle.language.proofs.Chart.Fair.{Fair}
 use Rattle.language.proofs.Chart.Turned.{Tree, leaves, push, push-fits, push-count, push-yield}
 
 module _ (g : Grammar) where
@@ -23,8 +24,8 @@ module _ (g : Grammar) where
     pub is : Is (leaves g X tree) vs
 
   pub covers-grown : (X : ℕ) (vs : List Word) → Covers g X vs → Grown X vs
-  covers-grown X vs (Covers.word w h m) = record { tree = inl h; is = single-is X w m }
-  covers-grown X vs (Covers.reading vs h) = record { tree = inr (h .reading); is = h .is }
+  covers-grown X _ (Covers.word w h m) = record { tree = inl h; is = single-is X w m }
+  covers-grown X _ (Covers.reading vs h) = record { tree = inr (h .reading); is = h .is }
 
   pub tree-covers : (X : ℕ) (vs : List Word) (t : Tree g X) → Is (leaves g X t) vs → Covers g X vs
   tree-covers X vs (inl h) is =
@@ -86,13 +87,24 @@ module _ (g : Grammar) (ws : List Word) where
         ends = l;
       }
 
-  mutual
-    pub held-is : (r d i k : ℕ) → Held g ws r d i k → HeldIs r d i k
-    held-is r d i k (begin r i k n w s) = ?
-    held-is r d i k (advance r d′ i j k h l s) = let b = held-is r d′ i j h in held-more r d′ i j k (b .done) (b .forward) l (spans-is (symbol g r d′) j k s)
+module _ (g : Grammar) (fair : Fair g) (ws : List Word) where
+  held-first : (r i k : ℕ) → Numbered g r → SpansIs g ws (symbol g r 0) i k → HeldIs g ws r 1 i k
+  held-first r i k n = held-more g ws r 0 i i k (subst (Done g r 0) (sym (between-none ws i)) (done-none g r n)) (omega arith) (fair .filled r n)
 
-    pub spans-is : (X j k : ℕ) → Spans g ws X j k → SpansIs X j k
-    spans-is X j k (Spans.word c j h m) = spans-word c j h m
-    spans-is X j k (finished r j k h) =
+  mutual
+    pub held-is : (r d i k : ℕ) → Held g ws r d i k → HeldIs g ws r d i k
+    held-is _ _ _ _ (begin r i k n w s) = held-first r i k n (spans-is (symbol g r 0) i k s)
+    held-is _ _ _ _ (advance r d i j k h l s) =
+        let b = held-is r d i j h in
+        held-more g ws r d i j k (b .done) (b .forward) l (spans-is (symbol g r d) j k s)
+
+    pub spans-is : (X j k : ℕ) → Spans g ws X j k → SpansIs g ws X j k
+    spans-is _ _ _ (Spans.word c j h m) = spans-word g ws c j h m
+    spans-is _ _ _ (finished r j k h) =
         let b = held-is r (size g r) j k h in
         record { covers = Covers.reading (between j k ws) (done-reads g r (between j k ws) (b .done)); forward = b .forward; ends = b .ends }
+
+-- the left side of an item's rule may start where the item starts
+pub held-wanted : (g : Grammar) (ws : List Word) (r d i k : ℕ) → Held g ws r d i k → Wanted g ws i (left g r)
+held-wanted g ws _ _ _ _ (begin r i k n w s) = w
+held-wanted g ws _ _ _ _ (advance r d i j k h l s) = held-wanted g ws r d i j h
