@@ -1,4 +1,6 @@
 pub mod Between
+pub mod Complete
+pub mod Context
 pub mod Done
 pub mod Fair
 pub mod Turned

@@ -1,5 +1,5 @@
 -- The words between two places, put together and taken apart.
-use mathlib.Core.Path.{_≡_, sym, ap, _∙_}
+use mathlib.Core.Path.{_≡_, sym, ap, subst, _∙_}
 use mathlib.Core.List.{List, [], _∷_, _++_}
 use Prim.Native.Nat.{ℕ, zero, suc, _+_, _-_, _<_, _≤_}
 use native.Mathlib.Omega.{arith}
@@ -7,8 +7,9 @@ use lib.Dec.{T}
 use lib.ListN.{length, getD, take, drop, length-drop}
 use lib.Seq.{take-add, take-take, drop-drop, drop-cons, length-take-le}
 use Rattle.std.proofs.shelf.Lists.{drop-take}
-use Rattle.language.specs.Words.{Word, blank}
+use Rattle.language.specs.Words.{Word, blank, Is}
 use Rattle.language.specs.Theorem.{between}
+use Rattle.language.proofs.Words.{is-append}
 
 -- a place whose word matches a key is in the words
 pub matched-within : (ws : List Word) (j c : ℕ) → T (getD ws j blank c) → j < length ws
@@ -55,3 +56,7 @@ module _ (ws : List Word) where
   between-back i k n h =
       let e : k - i ≡ n + (k - (i + n)) = omega arith in
       ap (λ m. drop n (take m (drop i ws))) e ∙ (drop-take n (k - (i + n)) (drop i ws) ∙ ap (take (k - (i + n))) (drop-drop n i ws))
+
+  -- keys that are the first words up to i, and keys behind them that are the words up to k
+  pub is-between : (p q : List ℕ) (i k : ℕ) → i ≤ k → Is p (take i ws) → Is q (between i k ws) → Is (p ++ q) (take k ws)
+  is-between p q i k l h b = subst (Is (p ++ q)) (take-between i k l) (is-append p (take i ws) q (between i k ws) h b)

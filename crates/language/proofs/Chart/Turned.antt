@@ -2,7 +2,7 @@
 use mathlib.Core.Path.{_≡_, refl, sym, ap, subst, _∙_}
 use mathlib.Core.Logic.{_⊎_, inl, inr, ⊎-elim}
 use mathlib.Core.List.{List, [], _∷_, _++_, append-assoc, append-nil}
-use Prim.Native.Nat.{ℕ, zero, suc, _+_, _<_}
+use Prim.Native.Nat.{ℕ, zero, suc, _+_, _<_, _≤_}
 use native.Mathlib.Omega.{arith}
 use lib.ListN.{length}
 use Rattle.std.proofs.shelf.Tests.{cases-lt}
@@ -33,6 +33,11 @@ pub fits-numbered : (g : Grammar) (r : ℕ) (ks : Children) → Fits g r ks → 
 fits-numbered g r none f = f
 fits-numbered g r (key ks c) f = fits-numbered g r ks (f .0)
 fits-numbered g r (part ks s cs) f = fits-numbered g r ks (f .0)
+
+pub fits-count : (g : Grammar) (r : ℕ) (ks : Children) → Fits g r ks → count ks ≤ size g r
+fits-count g r none f = omega arith
+fits-count g r (key ks c) f = f .1
+fits-count g r (part ks s cs) f = f .1
 
 -- the item of all children is used, if there is any child
 pub uses-last : (r i : ℕ) (ks : Children) → 0 < count ks → Uses r i ks (reached r i ks)
@@ -71,6 +76,10 @@ pub record Filled (g : Grammar) (r : ℕ) (ks : Children) : Type 0 where
   pub yields : yield children ≡ yield ks ++ rest
   pub uses : (i : ℕ) (u : Item) → Uses r i ks u → Uses r i children u
 
+-- children filled up are a reading
+abbrev pub filled-reading : (g : Grammar) (r : ℕ) (ks : Children) → Filled g r ks → Reading g (left g r)
+filled-reading g r ks all = record { by = r; children = all .children; heads = refl; fits = all .fits; whole = all .whole }
+
 -- more children for one child more are more children
 filled-push : (g : Grammar) (r X : ℕ) (ks : Children) (t : Tree g X) → Filled g r (push g X ks t) → Filled g r ks
 filled-push g r X ks t more = record {
@@ -97,9 +106,7 @@ module _ (g : Grammar) (r : ℕ) (trees : (d : ℕ) → d < size g r → Tree g 
 
   -- so its left side has a reading
   pub left-reading : Numbered g r → Reading g (left g r)
-  left-reading n =
-      let whole = fill (size g r) none n (omega arith) in
-      record { by = r; children = whole .children; heads = refl; fits = whole .fits; whole = whole .whole }
+  left-reading n = filled-reading g r none (fill (size g r) none n (omega arith))
 
 module _ (g : Grammar) where
   -- a symbol that can be turned into keys alone is a key or has a reading

@@ -1,0 +1,1 @@
+-- What a programme uses is held.
