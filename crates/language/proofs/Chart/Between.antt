@@ -4,7 +4,7 @@ use mathlib.Core.List.{List, [], _∷_, _++_}
 use Prim.Native.Nat.{ℕ, zero, suc, _+_, _-_, _<_, _≤_}
 use native.Mathlib.Omega.{arith}
 use lib.Dec.{T}
-use lib.ListN.{length, getD, take, drop, length-drop}
+use lib.ListN.{length, getD, take, drop, length-take, length-drop}
 use lib.Seq.{take-add, take-take, drop-drop, drop-cons, length-take-le}
 use Rattle.std.proofs.shelf.Lists.{drop-take}
 use Rattle.language.specs.Words.{Word, blank, Is}
@@ -35,6 +35,10 @@ module _ (ws : List Word) where
       let e : suc j - j ≡ 1 = omega arith in
       ap (λ n. take n (drop j ws)) e ∙ ap (take 1) (drop-cons ws j blank h)
 
+  -- words between two places: the second is past the first
+  pub between-some : (i k : ℕ) → 1 ≤ length (between i k ws) → i < k
+  between-some i k h = omega (arith, length-take (k - i) (drop i ws))
+
   -- put together
   pub between-join : (i j k : ℕ) → i ≤ j → j ≤ k → between i j ws ++ between j k ws ≡ between i k ws
   between-join i j k h l =
@@ -42,6 +46,10 @@ module _ (ws : List Word) where
       let b : i + (j - i) ≡ j = omega arith in
       sym (ap (λ n. take n (drop i ws)) (sym a) ∙ (take-add (j - i) (k - j) (drop i ws)
           ∙ ap (λ us. between i j ws ++ take (k - j) us) (drop-drop (j - i) i ws ∙ ap (λ n. drop n ws) b)))
+
+  -- the first word and the others
+  pub between-cons : (j k : ℕ) → j < k → k ≤ length ws → between j k ws ≡ getD ws j blank ∷ between (suc j) k ws
+  between-cons j k h l = sym (between-join j (suc j) k (omega arith) h) ∙ ap (λ us. us ++ between (suc j) k ws) (between-one j (omega arith))
 
   pub take-between : (i k : ℕ) → i ≤ k → take i ws ++ between i k ws ≡ take k ws
   take-between i k h = ap (λ us. us ++ between i k ws) (sym (between-first i)) ∙ (between-join 0 i k (omega arith) h ∙ between-first k)
