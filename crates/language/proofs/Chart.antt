@@ -4,3 +4,4 @@ pub mod Context
 pub mod Done
 pub mod Fair
 pub mod Turned
+pub mod Used

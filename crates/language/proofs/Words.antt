@@ -1,6 +1,6 @@
 -- Lists of keys that begin with words, or are words, put together and taken apart.
 use mathlib.Core.Path.{_≡_, refl, ap, subst}
-use mathlib.Core.List.{List, [], _∷_, _++_, append-nil}
+use mathlib.Core.List.{List, [], _∷_, _++_, append-assoc, append-nil}
 use Prim.Native.Nat.{ℕ, zero, suc, _≤_}
 use native.Mathlib.Omega.{arith}
 use lib.Dec.{T}
@@ -46,6 +46,9 @@ is-back p q ws h = record {
   begins = begins-back p q ws (h .begins);
   long = simp length-drop (omega (arith, simp length-append at (h .long)));
 }
+
+pub begins-assoc : (p q r : List ℕ) (ws : List Word) → Begins ((p ++ q) ++ r) ws → Begins (p ++ (q ++ r)) ws
+begins-assoc p q r ws b = subst (λ y. Begins y ws) (append-assoc p q r) b
 
 -- fewer words: still begun
 pub begins-take : (p : List ℕ) (ws : List Word) (n : ℕ) → Begins p ws → Begins p (take n ws)

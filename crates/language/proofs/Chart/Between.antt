@@ -7,9 +7,9 @@ use lib.Dec.{T}
 use lib.ListN.{length, getD, take, drop, length-take, length-drop}
 use lib.Seq.{take-add, take-take, drop-drop, drop-cons, length-take-le}
 use Rattle.std.proofs.shelf.Lists.{drop-take}
-use Rattle.language.specs.Words.{Word, blank, Is}
+use Rattle.language.specs.Words.{Word, blank, Begins, Is}
 use Rattle.language.specs.Theorem.{between}
-use Rattle.language.proofs.Words.{is-append}
+use Rattle.language.proofs.Words.{is-append, begins-back}
 
 -- a place whose word matches a key is in the words
 pub matched-within : (ws : List Word) (j c : ℕ) → T (getD ws j blank c) → j < length ws
@@ -68,3 +68,11 @@ module _ (ws : List Word) where
   -- keys that are the first words up to i, and keys behind them that are the words up to k
   pub is-between : (p q : List ℕ) (i k : ℕ) → i ≤ k → Is p (take i ws) → Is q (between i k ws) → Is (p ++ q) (take k ws)
   is-between p q i k l h b = subst (Is (p ++ q)) (take-between i k l) (is-append p (take i ws) q (between i k ws) h b)
+
+  -- keys that begin with the words between, without those in front of them
+  pub begins-next : (p q : List ℕ) (i k : ℕ) → i + length p ≤ k → Begins (p ++ q) (between i k ws) → Begins q (between (i + length p) k ws)
+  begins-next p q i k l b = subst (Begins q) (between-back i k (length p) l) (begins-back p q (between i k ws) b)
+
+  -- the first of them matches its word
+  pub begins-match : (c : ℕ) (q : List ℕ) (j k : ℕ) → j < k → k ≤ length ws → Begins (c ∷ q) (between j k ws) → T (getD ws j blank c)
+  begins-match c q j k l short b = (subst (Begins (c ∷ q)) (between-cons j k l short) b) .0

@@ -1,25 +1,22 @@
 -- What begins with the words and may start where it starts is held.
-use mathlib.Core.Path.{_≡_, refl, sym, ap, subst, _∙_}
-use mathlib.Core.Logic.{_⊎_, inl, inr, ⊎-elim}
-use mathlib.Core.List.{List, [], _∷_, _++_, append-assoc, append-nil}
-use Prim.Native.Nat.{ℕ, zero, suc, _+_, _-_, _<_, _≤_}
+use mathlib.Core.Path.{_≡_, refl, sym, subst}
+use mathlib.Core.List.{List, [], _∷_, _++_}
+use Prim.Native.Nat.{ℕ, suc, _+_, _<_, _≤_}
 use native.Mathlib.Omega.{arith}
 use lib.Dec.{T}
 use lib.ListN.{length, getD, length-append}
-use Rattle.std.proofs.shelf.Lists.{getD-at, getD-append-left, getD-append-right}
-use Rattle.std.proofs.shelf.Tests.{cases-lt}
-use Rattle.language.specs.Book.{Grammar, Key, Numbered, left, size, symbol}
-use Rattle.language.specs.Words.{Word, blank, Begins, Is}
-use Rattle.language.specs.Readings.{Children, none, key, part, yield, count, Fits, Item, Uses, Done}
+use Rattle.language.specs.Book.{Grammar, Numbered, left, size, symbol}
+use Rattle.language.specs.Words.{Word, blank, Begins}
+use Rattle.language.specs.Readings.{Children, none, key, part, yield, count, Fits}
 use Rattle.language.specs.Chart.{Corner, self, down, Wanted, first, next, Held, begin, advance, Spans, finished}
 use Rattle.language.specs.Theorem.{between}
-use Rattle.language.proofs.Words.{begins-back, is-begins}
-use Rattle.language.proofs.Chart.Between.{between-back, between-cons}
+use Rattle.language.proofs.Words.{begins-assoc}
+use Rattle.language.proofs.Chart.Between.{begins-next, begins-match}
 use Rattle.language.proofs.Chart.Fair.{Fair}
 use Rattle.language.proofs.Chart.Turned.{fits-numbered}
 
 -- the first d symbols of rule r from after word i to word k: an item, or none of them where the left side may start
-data Stood (g : Grammar) (ws : List Word) (r : ℕ) : ℕ → ℕ → ℕ → Type 0 where
+pub data Stood (g : Grammar) (ws : List Word) (r : ℕ) : ℕ → ℕ → ℕ → Type 0 where
   nothing : (i : ℕ) → Wanted g ws i (left g r) → Stood g ws r 0 i i
   holds : (d i k : ℕ) → Held g ws r d i k → Stood g ws r d i k
 
@@ -30,7 +27,7 @@ module _ (g : Grammar) (ws : List Word) where
   wanted-down r _ _ n (next s d i k Y h l c) e = next s d i k (symbol g r 0) h l (down r n (subst (Corner g (symbol g s d)) (sym e) c))
 
   -- the next symbol may start
-  stood-wanted : (r d i k : ℕ) → Numbered g r → Stood g ws r d i k → d < size g r → Wanted g ws k (symbol g r d)
+  pub stood-wanted : (r d i k : ℕ) → Numbered g r → Stood g ws r d i k → d < size g r → Wanted g ws k (symbol g r d)
   stood-wanted r _ _ _ n (nothing i w) l = wanted-down r i (left g r) n w refl
   stood-wanted r _ _ _ n (holds d i k h) l = next r d i k (symbol g r d) h l self
 
@@ -39,53 +36,41 @@ module _ (g : Grammar) (ws : List Word) where
   stood-more r _ _ _ k n (nothing i w) l s = begin r i k n w s
   stood-more r _ _ _ k n (holds d i j h) l s = advance r d i j k h l s
 
-  stood-held : (r d i k : ℕ) → Stood g ws r d i k → 1 ≤ d → Held g ws r d i k
+  pub stood-held : (r d i k : ℕ) → Stood g ws r d i k → 1 ≤ d → Held g ws r d i k
   stood-held r _ _ _ (nothing i w) l = absurd (omega arith)
   stood-held r _ _ _ (holds d i k h) l = h
 
--- keys that begin with the words from after word i to word k
-module _ (ws : List Word) (k : ℕ) (short : k ≤ length ws) where
-  begins-next : (p q : List ℕ) (i : ℕ) → i + length p ≤ k → Begins (p ++ q) (between i k ws) → Begins q (between (i + length p) k ws)
-  begins-next p q i l b = subst (Begins q) (between-back ws i k (length p) l) (begins-back p q (between i k ws) b)
-
-  begins-match : (c : ℕ) (q : List ℕ) (j : ℕ) → j < k → Begins (c ∷ q) (between j k ws) → T (getD ws j blank c)
-  begins-match c q j l b = (subst (Begins (c ∷ q)) (between-cons ws j k l short) b) .0
-
-  begins-assoc : (p q r : List ℕ) (i : ℕ) → Begins ((p ++ q) ++ r) (between i k ws) → Begins (p ++ (q ++ r)) (between i k ws)
-  begins-assoc p q r i b = subst (λ y. Begins y (between i k ws)) (append-assoc p q r) b
-
-module _ (g : Grammar) (ws : List Word) where
   -- one more child, a key
   key-more : (r i j c : ℕ) (ks : Children) → Fits g r (key ks c) → Stood g ws r (count ks) i j → T (getD ws j blank c) → Held g ws r (suc (count ks)) i (suc j)
   key-more r i j c ks f st m =
-      stood-more g ws r (count ks) i j (suc j) (fits-numbered g r ks (f .0)) st (f .1) (subst (λ X. Spans g ws X j (suc j)) (sym (f .2)) (Spans.word c j (f .3) m))
+      stood-more r (count ks) i j (suc j) (fits-numbered g r ks (f .0)) st (f .1) (subst (λ X. Spans g ws X j (suc j)) (sym (f .2)) (Spans.word c j (f .3) m))
 
   -- one more child, a part
   part-wanted : (r i j s : ℕ) (ks cs : Children) → Fits g r (part ks s cs) → Stood g ws r (count ks) i j → Wanted g ws j (left g s)
-  part-wanted r i j s ks cs f st = subst (Wanted g ws j) (f .2) (stood-wanted g ws r (count ks) i j (fits-numbered g r ks (f .0)) st (f .1))
+  part-wanted r i j s ks cs f st = subst (Wanted g ws j) (f .2) (stood-wanted r (count ks) i j (fits-numbered g r ks (f .0)) st (f .1))
 
   part-more : (r i j k s : ℕ) (ks cs : Children) → Fits g r (part ks s cs) → Stood g ws r (count ks) i j → Held g ws s (count cs) j k → Held g ws r (suc (count ks)) i k
   part-more r i j k s ks cs f st h =
       let spans = finished s j k (subst (λ d. Held g ws s d j k) (f .4) h) in
-      stood-more g ws r (count ks) i j k (fits-numbered g r ks (f .0)) st (f .1) (subst (λ X. Spans g ws X j k) (sym (f .2)) spans)
+      stood-more r (count ks) i j k (fits-numbered g r ks (f .0)) st (f .1) (subst (λ X. Spans g ws X j k) (sym (f .2)) spans)
 
 module _ (g : Grammar) (fair : Fair g) (ws : List Word) (k : ℕ) (short : k ≤ length ws) where
   -- children of a rule that may start after word i, whose keys end at word k or before
-  children-stood : (r i : ℕ) (ks : Children) (rest : List ℕ) → Wanted g ws i (left g r) → Fits g r ks → Begins (yield ks ++ rest) (between i k ws)
+  pub children-stood : (r i : ℕ) (ks : Children) (rest : List ℕ) → Wanted g ws i (left g r) → Fits g r ks → Begins (yield ks ++ rest) (between i k ws)
       → i + length (yield ks) ≤ k → Stood g ws r (count ks) i (i + length (yield ks))
   children-stood r i none rest w f b l = subst (Stood g ws r 0 i) (omega arith) (nothing i w)
   children-stood r i (key ks c) rest w f b l =
       let j = i + length (yield ks) in
       let e : suc j ≡ i + length (yield ks ++ (c ∷ [])) = omega (arith, length-append (yield ks) (c ∷ [])) in
-      let b′ = begins-assoc ws k short (yield ks) (c ∷ []) rest i b in
+      let b′ = begins-assoc (yield ks) (c ∷ []) rest (between i k ws) b in
       let st = children-stood r i ks (c ∷ rest) w (f .0) b′ (omega arith) in
-      let m = begins-match ws k short c rest j (omega arith) (begins-next ws k short (yield ks) (c ∷ rest) i (omega arith) b′) in
+      let m = begins-match ws c rest j k (omega arith) short (begins-next ws (yield ks) (c ∷ rest) i k (omega arith) b′) in
       holds (suc (count ks)) i (i + length (yield ks ++ (c ∷ []))) (subst (Held g ws r (suc (count ks)) i) e (key-more g ws r i j c ks f st m))
   children-stood r i (part ks s cs) rest w f b l =
       let j = i + length (yield ks) in
       let e : j + length (yield cs) ≡ i + length (yield ks ++ yield cs) = omega (arith, length-append (yield ks) (yield cs)) in
-      let b′ = begins-assoc ws k short (yield ks) (yield cs) rest i b in
+      let b′ = begins-assoc (yield ks) (yield cs) rest (between i k ws) b in
       let st = children-stood r i ks (yield cs ++ rest) w (f .0) b′ (omega arith) in
-      let below = children-stood s j cs rest (part-wanted g ws r i j s ks cs f st) (f .3) (begins-next ws k short (yield ks) (yield cs ++ rest) i (omega arith) b′) (omega arith) in
+      let below = children-stood s j cs rest (part-wanted g ws r i j s ks cs f st) (f .3) (begins-next ws (yield ks) (yield cs ++ rest) i k (omega arith) b′) (omega arith) in
       let h = stood-held g ws s (count cs) j (j + length (yield cs)) below (omega (arith, f .4, fair .filled s (fits-numbered g s cs (f .3)))) in
       holds (suc (count ks)) i (i + length (yield ks ++ yield cs)) (subst (Held g ws r (suc (count ks)) i) e (part-more g ws r i j (j + length (yield cs)) s ks cs f st h))
