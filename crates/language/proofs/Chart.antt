@@ -3,5 +3,7 @@ pub mod Complete
 pub mod Context
 pub mod Done
 pub mod Fair
+pub mod Local
+pub mod Theorem
 pub mod Turned
 pub mod Used
