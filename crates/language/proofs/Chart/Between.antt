@@ -5,7 +5,7 @@ use Prim.Native.Nat.{ℕ, zero, suc, _+_, _-_, _<_, _≤_}
 use native.Mathlib.Omega.{arith}
 use lib.Dec.{T}
 use lib.ListN.{length, getD, take, drop, length-take, length-drop}
-use lib.Seq.{take-add, take-take, drop-drop, drop-cons, length-take-le}
+use lib.Seq.{take-add, take-length, drop-drop, drop-cons, length-take-le}
 use Rattle.std.proofs.shelf.Lists.{drop-take}
 use Rattle.language.specs.Words.{Word, blank, Begins, Is}
 use Rattle.language.specs.Theorem.{between}
@@ -21,9 +21,12 @@ module _ (ws : List Word) where
   pub length-between : (i k : ℕ) → i ≤ k → k ≤ length ws → length (between i k ws) ≡ k - i
   length-between i k h l = length-take-le (k - i) (drop i ws) (omega (arith, length-drop i ws))
 
-  -- all words, and the first k
+  -- the first k words, and all
   pub between-first : (k : ℕ) → between 0 k ws ≡ take k ws
   between-first k = ap (λ n. take n ws) (omega arith)
+
+  pub between-all : between 0 (length ws) ws ≡ ws
+  between-all = between-first (length ws) ∙ take-length ws
 
   -- no word
   pub between-none : (k : ℕ) → between k k ws ≡ []
@@ -45,7 +48,7 @@ module _ (ws : List Word) where
       let a : (j - i) + (k - j) ≡ k - i = omega arith in
       let b : i + (j - i) ≡ j = omega arith in
       sym (ap (λ n. take n (drop i ws)) (sym a) ∙ (take-add (j - i) (k - j) (drop i ws)
-          ∙ ap (λ us. between i j ws ++ take (k - j) us) (drop-drop (j - i) i ws ∙ ap (λ n. drop n ws) b)))
+      ∙ ap (λ us. between i j ws ++ take (k - j) us) (drop-drop (j - i) i ws ∙ ap (λ n. drop n ws) b)))
 
   -- the first word and the others
   pub between-cons : (j k : ℕ) → j < k → k ≤ length ws → between j k ws ≡ getD ws j blank ∷ between (suc j) k ws
@@ -55,11 +58,6 @@ module _ (ws : List Word) where
   take-between i k h = ap (λ us. us ++ between i k ws) (sym (between-first i)) ∙ (between-join 0 i k (omega arith) h ∙ between-first k)
 
   -- taken apart
-  pub between-front : (i k n : ℕ) → i + n ≤ k → take n (between i k ws) ≡ between i (i + n) ws
-  between-front i k n h =
-      let e : n ≡ i + n - i = omega arith in
-      take-take n (k - i) (drop i ws) (omega arith) ∙ ap (λ m. take m (drop i ws)) e
-
   pub between-back : (i k n : ℕ) → i + n ≤ k → drop n (between i k ws) ≡ between (i + n) k ws
   between-back i k n h =
       let e : k - i ≡ n + (k - (i + n)) = omega arith in

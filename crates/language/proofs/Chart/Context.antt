@@ -2,24 +2,24 @@
 use mathlib.Core.Path.{_≡_, refl, sym, ap, subst, _∙_}
 use mathlib.Core.Logic.{inl, inr}
 use mathlib.Core.List.{List, [], _∷_, _++_, append-assoc, append-nil}
-use Prim.Native.Nat.{ℕ, suc, _+_, _-_, _<_, _≤_}
+use Prim.Native.Nat.{ℕ, _+_, _-_, _<_, _≤_}
 use native.Mathlib.Omega.{arith}
 use lib.Dec.{eqb-refl}
 use lib.ListN.{length, take}
 use lib.Seq.{take-length}
-use Rattle.language.specs.Book.{Grammar, Key, Numbered, left, size, symbol}
+use Rattle.language.specs.Book.{Grammar, Key, left, size, symbol}
 use Rattle.language.specs.Words.{Word, Begins, Is, only}
-use Rattle.language.specs.Readings.{Children, none, yield, count, Fits, Reading, Item, item, reached, Uses, Begun, Used, Done}
+use Rattle.language.specs.Readings.{Children, yield, count, Fits, Reading, Item, item, Uses, Begun, Used, Done}
 use Rattle.language.specs.Chart.{Corner, self, down, Wanted, first, next, Held, begin, advance}
 use Rattle.language.specs.Theorem.{between}
 use Rattle.language.proofs.Words.{begins-append, is-begins}
 use Rattle.language.proofs.Chart.Between.{length-between, between-none, is-between}
-use Rattle.language.proofs.Chart.Done.{held-is, held-wanted, done-none}
+use Rattle.language.proofs.Chart.Done.{held-is, done-none}
 use Rattle.language.proofs.Chart.Fair.{Fair}
-use Rattle.language.proofs.Chart.Turned.{Tree, leaves, Below, push, push-fits, push-count, push-yield, push-below, fits-numbered, fits-count, uses-last, Filled, filled-reading, fill}
+use Rattle.language.proofs.Chart.Turned.{Tree, leaves, Below, push, push-fits, push-yield, push-below, fits-numbered, fits-count, uses-last, Filled, filled-reading, fill}
 
 -- a tree of the symbol X stands in a reading of the start part: before it the first k words, and its items are used
-pub record Placed (g : Grammar) (ws : List Word) (k X : ℕ) (t : Tree g X) : Type 0 where
+record Placed (g : Grammar) (ws : List Word) (k X : ℕ) (t : Tree g X) : Type 0 where
   pub reading : Reading g (g .start)
   pub before : List ℕ
   pub after : List ℕ
@@ -28,7 +28,7 @@ pub record Placed (g : Grammar) (ws : List Word) (k X : ℕ) (t : Tree g X) : Ty
   pub uses : (u : Item) → Below g X k t u → Uses (reading .by) 0 (reading .children) u
 
 -- every tree of the symbol X stands so
-abbrev pub Context : Grammar → List Word → ℕ → ℕ → Type 0
+abbrev Context : Grammar → List Word → ℕ → ℕ → Type 0
 Context g ws k X = (t : Tree g X) → Placed g ws k X t
 
 regroup : (b k l r a : List ℕ) → b ++ (((k ++ l) ++ r) ++ a) ≡ (b ++ k) ++ (l ++ (r ++ a))
@@ -43,7 +43,12 @@ module _ (g : Grammar) (fair : Fair g) (ws : List Word) where
   start-context : Context g ws 0 (g .start)
   start-context (inl h) = absurd (fair .start-apart h)
   start-context (inr t) = record {
-    reading = t; before = []; after = []; yields = sym (append-nil (yield (t .children))); is = record { begins = tt; long = refl }; uses = λ u w. w;
+    reading = t;
+    before = [];
+    after = [];
+    yields = sym (append-nil (yield (t .children)));
+    is = record { begins = tt; long = refl };
+    uses = λ u w. w;
   }
 
   -- a rule that stands after i words, with children that are the words up to k: so the tree behind them stands after k words
@@ -78,7 +83,7 @@ module _ (g : Grammar) (fair : Fair g) (ws : List Word) where
       next-context r 0 k k (corner-context k X (left g r) l con c) (subst (Done g r 0) (sym (between-none ws k)) (done-none g r n)) (fair .filled r n) (omega arith) l
 
   mutual
-    pub wanted-context : (k Y : ℕ) → Wanted g ws k Y → Context g ws k Y
+    wanted-context : (k Y : ℕ) → Wanted g ws k Y → Context g ws k Y
     wanted-context _ _ (first Y c) = corner-context 0 (g .start) Y (omega arith) start-context c
     wanted-context _ _ (next r d i k Y h l c) =
         let b = held-is g fair ws r d i k h in
@@ -104,8 +109,8 @@ module _ (g : Grammar) (fair : Fair g) (ws : List Word) where
       let ks = b .done .children in
       let all = filled r ks (b .done .fits) in
       subst (λ n. Used g (take k ws) (item r n i k)) (b .done .many)
-          (placed-used r i k ks all (held-context r d i k h (inr (filled-reading g r ks all))) (omega (arith, b .done .many, b .some)) (b .done .is)
-              (omega (arith, b .forward, b .done .is .long, length-between ws i k (b .forward) (b .ends))))
+      (placed-used r i k ks all (held-context r d i k h (inr (filled-reading g r ks all))) (omega (arith, b .done .many, b .some)) (b .done .is)
+      (omega (arith, b .forward, b .done .is .long, length-between ws i k (b .forward) (b .ends))))
 
   -- a key that may start after the last word goes on with the words to a programme
   pub wanted-begun : (c : ℕ) → Key g c → Wanted g ws (length ws) c → Begun g (ws ++ (only c ∷ []))

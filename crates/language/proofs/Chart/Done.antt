@@ -1,24 +1,24 @@
 -- What an item and a span of the chart say of their own words.
-use mathlib.Core.Path.{_≡_, refl, sym, ap, subst, _∙_}
-use mathlib.Core.Logic.{_⊎_, inl, inr, ⊎-elim}
-use mathlib.Core.List.{List, [], _∷_, _++_}
+use mathlib.Core.Path.{refl, sym, ap, subst, _∙_}
+use mathlib.Core.Logic.{inl, inr}
+use mathlib.Core.List.{List, [], _++_}
 use Prim.Native.Nat.{ℕ, suc, _<_, _≤_}
 use native.Mathlib.Omega.{arith}
 use lib.Dec.{T}
 use lib.ListN.{length, getD}
 use Rattle.language.specs.Book.{Grammar, Key, Numbered, left, size, symbol}
 use Rattle.language.specs.Words.{Word, blank, Is}
-use Rattle.language.specs.Readings.{Children, none, key, part, yield, count, Fits, Reading, Done, Reads}
+use Rattle.language.specs.Readings.{none, yield, Done, Reads}
 use Rattle.language.specs.Chart.{Wanted, Held, begin, advance, Spans, finished}
-use Rattle.language.specs.Choice.{Covers, reading}
+use Rattle.language.specs.Choice.{Covers}
 use Rattle.language.specs.Theorem.{between}
-use Rattle.language.proofs.Words.{is-append, single-is, is-single}
+use Rattle.language.proofs.Words.{is-append, single-is}
 use Rattle.language.proofs.Chart.Between.{matched-within, between-none, between-one, between-join}
 use Rattle.language.proofs.Chart.Fair.{Fair}
 use Rattle.language.proofs.Chart.Turned.{Tree, leaves, push, push-fits, push-count, push-yield}
 
 module _ (g : Grammar) where
-  -- a symbol that reads words has a tree that does, and the other way round
+  -- a symbol that reads words has a tree that does
   pub record Grown (X : ℕ) (vs : List Word) : Type 0 where
     pub tree : Tree g X
     pub is : Is (leaves g X tree) vs
@@ -27,18 +27,12 @@ module _ (g : Grammar) where
   covers-grown X _ (Covers.word w h m) = record { tree = inl h; is = single-is X w m }
   covers-grown X _ (Covers.reading vs h) = record { tree = inr (h .reading); is = h .is }
 
-  pub tree-covers : (X : ℕ) (vs : List Word) (t : Tree g X) → Is (leaves g X t) vs → Covers g X vs
-  tree-covers X vs (inl h) is =
-      let one = is-single X vs is in
-      subst (Covers g X) (sym (one .is)) (Covers.word (one .word) h (one .matches))
-  tree-covers X vs (inr t) is = Covers.reading vs (record { reading = t; is = is })
-
   -- no symbol done
   pub done-none : (r : ℕ) → Numbered g r → Done g r 0 []
   done-none r n = record { children = none; fits = n; many = refl; is = record { begins = tt; long = refl } }
 
   -- one more symbol done
-  pub done-more : (r d : ℕ) (us vs : List Word) → Done g r d us → d < size g r → Covers g (symbol g r d) vs → Done g r (suc d) (us ++ vs)
+  done-more : (r d : ℕ) (us vs : List Word) → Done g r d us → d < size g r → Covers g (symbol g r d) vs → Done g r (suc d) (us ++ vs)
   done-more r d us vs h l c =
       let X = symbol g r d in
       let t = covers-grown X vs c in
@@ -91,6 +85,7 @@ module _ (g : Grammar) (fair : Fair g) (ws : List Word) where
   held-first : (r i k : ℕ) → Numbered g r → SpansIs g ws (symbol g r 0) i k → HeldIs g ws r 1 i k
   held-first r i k n = held-more g ws r 0 i i k (subst (Done g r 0) (sym (between-none ws i)) (done-none g r n)) (omega arith) (fair .filled r n)
 
+  -- what every item and every span says
   mutual
     pub held-is : (r d i k : ℕ) → Held g ws r d i k → HeldIs g ws r d i k
     held-is _ _ _ _ (begin r i k n w s) = held-first r i k n (spans-is (symbol g r 0) i k s)

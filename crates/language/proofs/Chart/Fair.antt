@@ -1,6 +1,5 @@
 -- What the chart needs of a grammar, and that a sound one has it.
-use mathlib.Core.Path.{_≡_, sym, subst}
-use mathlib.Core.Logic.{_⊎_, inl, inr, ⊎-elim}
+use mathlib.Core.Logic.{inl, inr, ⊎-elim}
 use Prim.Native.Nat.{ℕ, _<_, _≤_}
 use native.Mathlib.Omega.{arith}
 use Rattle.language.specs.Book.{Grammar, Meaning, Part, Key, Numbered, left, size, symbol}

@@ -59,8 +59,8 @@ module _ (g : Grammar) (fair : Fair g) (ws : List Word) where
   reads-held X j k w h short =
       let t = h .reading in
       done-held (t .by) (size g (t .by)) j k (subst (Wanted g ws j) (sym (t .heads)) w)
-          (record { children = t .children; fits = t .fits; many = t .whole; is = h .is })
-          (fair .filled (t .by) (fits-numbered g (t .by) (t .children) (t .fits))) short
+      (record { children = t .children; fits = t .fits; many = t .whole; is = h .is })
+      (fair .filled (t .by) (fits-numbered g (t .by) (t .children) (t .fits))) short
 
   -- an item is symbols that read the words between
   pub held-done : (r d i k : ℕ) → Held g ws r d i k → Done g r d (between i k ws)
@@ -68,8 +68,9 @@ module _ (g : Grammar) (fair : Fair g) (ws : List Word) where
 
   pub held-locally : (r d i k : ℕ) → Held g ws r d i k ↔ Locally g ws r d i k
   held-locally r d i k = (
-      (λ h. let b = held-is g fair ws r d i k h in record { wanted = held-wanted g ws r d i k h; done = b .done; some = b .some; ends = b .ends }),
-      (λ h. done-held r d i k (h .wanted) (h .done) (h .some) (h .ends)))
+    (λ h. let b = held-is g fair ws r d i k h in record { wanted = held-wanted g ws r d i k h; done = b .done; some = b .some; ends = b .ends }),
+    (λ h. done-held r d i k (h .wanted) (h .done) (h .some) (h .ends)),
+  )
 
   tree-spans : (X j k : ℕ) (t : Tree g X) → Wanted g ws j X → Is (leaves g X t) (between j k ws) → j < k → k ≤ length ws → Spans g ws X j k
   tree-spans X j k (inl h) w is l short =

@@ -12,7 +12,7 @@ use Rattle.language.specs.Readings.{yield, item, Reads, Used, Begun, Programme
 use Rattle.language.specs.Chart.{Corner, self, Wanted, first, Held, Whole}
 use Rattle.language.specs.Theorem.{between, ChartIs, ChartTheorem}
 use Rattle.language.proofs.Words.{begins-take}
-use Rattle.language.proofs.Chart.Between.{between-first}
+use Rattle.language.proofs.Chart.Between.{between-first, between-all}
 use Rattle.language.proofs.Chart.Context.{held-used, wanted-begun}
 use Rattle.language.proofs.Chart.Done.{held-is, done-reads}
 use Rattle.language.proofs.Chart.Fair.{Fair, sound-fair}
@@ -26,10 +26,6 @@ begins-key [] (w ∷ ws) c b = absurd b
 begins-key (x ∷ p) [] c b = (omega arith, eqb→eq x c (b .0))
 begins-key (x ∷ p) (w ∷ ws) c b = let rest = begins-key p ws c (b .1) in (omega (arith, rest .0), rest .1)
 
--- all words
-between-all : (ws : List Word) → between 0 (length ws) ws ≡ ws
-between-all ws = between-first ws (length ws) ∙ take-length ws
-
 module _ (g : Grammar) (fair : Fair g) (ws : List Word) where
   -- the start part may start after no word
   start-wanted : (r : ℕ) → left g r ≡ g .start → Wanted g ws 0 (left g r)
@@ -42,7 +38,7 @@ module _ (g : Grammar) (fair : Fair g) (ws : List Word) where
   used-held r d i k short u =
       let t = u .reading in
       uses-held g fair ws k short (t .by) 0 (t .children) [] (start-wanted (t .by) (t .heads)) (t .fits) (begins-between (yield (t .children)) k (u .begins))
-          (item r d i k) (u .uses) (omega arith)
+      (item r d i k) (u .uses) (omega arith)
 
   begun-wanted : (c : ℕ) → Begun g (ws ++ (only c ∷ [])) → Wanted g ws (length ws) c
   begun-wanted c h =
@@ -53,7 +49,7 @@ module _ (g : Grammar) (fair : Fair g) (ws : List Word) where
       let b = subst (Begins p) (take-append-seam ws (only c ∷ []) ∙ sym (take-length ws)) (begins-take p (ws ++ (only c ∷ [])) n (h .begins)) in
       let e : n - 0 ≡ n = omega arith in
       subst (Wanted g ws n) (ap (λ m. getD p m 0) e ∙ last .1)
-          (key-wanted g fair ws n (omega arith) (t .by) 0 (t .children) [] (start-wanted (t .by) (t .heads)) (t .fits) (begins-between p n b) (omega arith) (omega (arith, last .0)))
+      (key-wanted g fair ws n (omega arith) (t .by) 0 (t .children) [] (start-wanted (t .by) (t .heads)) (t .fits) (begins-between p n b) (omega arith) (omega (arith, last .0)))
 
   whole-programme : Whole g ws → Programme g ws
   whole-programme h =

@@ -59,7 +59,7 @@ module _ (g : Grammar) (X : ℕ) where
   push-yield ks (inr t) = refl
 
   -- the items used before are used still, and so are those of the new child
-  pub push-keeps : (r i : ℕ) (ks : Children) (t : Tree g X) (u : Item) → Uses r i ks u → Uses r i (push g X ks t) u
+  push-keeps : (r i : ℕ) (ks : Children) (t : Tree g X) (u : Item) → Uses r i ks u → Uses r i (push g X ks t) u
   push-keeps r i ks (inl h) u w = inl w
   push-keeps r i ks (inr t) u w = inl w
 
@@ -96,7 +96,12 @@ module _ (g : Grammar) (r : ℕ) (trees : (d : ℕ) → d < size g r → Tree g 
   -- children can be filled up
   pub fill : (n : ℕ) (ks : Children) → Fits g r ks → count ks + n ≡ size g r → Filled g r ks
   fill zero ks f e = record {
-    children = ks; fits = f; whole = omega arith; rest = []; yields = sym (append-nil (yield ks)); uses = λ i u w. w;
+    children = ks;
+    fits = f;
+    whole = omega arith;
+    rest = [];
+    yields = sym (append-nil (yield ks));
+    uses = λ i u w. w;
   }
   fill (suc n) ks f e =
       let X = symbol g r (count ks) in
@@ -105,7 +110,7 @@ module _ (g : Grammar) (r : ℕ) (trees : (d : ℕ) → d < size g r → Tree g 
       filled-push g r X ks t (fill n (push g X ks t) (push-fits g X r ks t f l refl) (omega (arith, push-count g X ks t)))
 
   -- so its left side has a reading
-  pub left-reading : Numbered g r → Reading g (left g r)
+  left-reading : Numbered g r → Reading g (left g r)
   left-reading n = filled-reading g r none (fill (size g r) none n (omega arith))
 
 module _ (g : Grammar) where
@@ -125,12 +130,12 @@ module _ (g : Grammar) where
       let below = children-productive s cs (f .3) in
       let turns = Productive.part s (fits-numbered g s cs (f .3)) (λ b l. below b (omega (arith, f .4))) in
       ⊎-elim
-          (children-productive r ks (f .0) d)
-          (λ l. let e : d ≡ count ks = omega arith in subst (Productive g) (sym (ap (symbol g r) e ∙ f .2)) turns)
-          (cases-lt d (count ks))
+      (children-productive r ks (f .0) d)
+      (λ l. let e : d ≡ count ks = omega arith in subst (Productive g) (sym (ap (symbol g r) e ∙ f .2)) turns)
+      (cases-lt d (count ks))
 
   -- a part with a reading can be turned into keys alone
   pub reading-productive : (X : ℕ) → Reading g X → Productive g X
   reading-productive X t = subst (Productive g) (t .heads)
       (Productive.part (t .by) (fits-numbered g (t .by) (t .children) (t .fits))
-          (λ d l. children-productive (t .by) (t .children) (t .fits) d (omega (arith, t .whole))))
+      (λ d l. children-productive (t .by) (t .children) (t .fits) d (omega (arith, t .whole))))

@@ -71,18 +71,18 @@ module _ (g : Grammar) (fair : Fair g) (ws : List Word) (k : ℕ) (short : k ≤
   key-wanted r i (key ks c) rest w f b l h =
       let b′ = begins-assoc (yield ks) (c ∷ []) rest (between i k ws) b in
       ⊎-elim
-          (λ within. subst (Wanted g ws k) (sym (getD-append-left (yield ks) (c ∷ []) 0 (k - i) (omega arith))) (key-wanted r i ks (c ∷ rest) w (f .0) b′ l within))
-          (λ near. let e : i + length (yield ks) ≡ k = omega (arith, length-append (yield ks) (c ∷ [])) in
-              subst (Wanted g ws k) (sym (getD-at (yield ks) c [] 0 (k - i) (omega arith)))
-                  (subst (λ n. Wanted g ws n c) e (behind-wanted r i c ks (c ∷ rest) w (f .0) b′ near (f .1) (f .2))))
-          (cases-lt k (i + length (yield ks)))
+      (λ within. subst (Wanted g ws k) (sym (getD-append-left (yield ks) (c ∷ []) 0 (k - i) (omega arith))) (key-wanted r i ks (c ∷ rest) w (f .0) b′ l within))
+      (λ near. let e : i + length (yield ks) ≡ k = omega (arith, length-append (yield ks) (c ∷ [])) in
+      subst (Wanted g ws k) (sym (getD-at (yield ks) c [] 0 (k - i) (omega arith)))
+      (subst (λ n. Wanted g ws n c) e (behind-wanted r i c ks (c ∷ rest) w (f .0) b′ near (f .1) (f .2))))
+      (cases-lt k (i + length (yield ks)))
   key-wanted r i (part ks s cs) rest w f b l h =
       let j = i + length (yield ks) in
       let b′ = begins-assoc (yield ks) (yield cs) rest (between i k ws) b in
       let long = length-append (yield ks) (yield cs) in
       ⊎-elim
-          (λ within. subst (Wanted g ws k) (sym (getD-append-left (yield ks) (yield cs) 0 (k - i) (omega arith))) (key-wanted r i ks (yield cs ++ rest) w (f .0) b′ l within))
-          (λ near. subst (Wanted g ws k) (sym (getD-behind (yield ks) (yield cs) i k near))
-              (key-wanted s j cs rest (behind-wanted r i (left g s) ks (yield cs ++ rest) w (f .0) b′ near (f .1) (f .2)) (f .3)
-                  (begins-next ws (yield ks) (yield cs ++ rest) i k near b′) near (omega arith)))
-          (cases-lt k j)
+      (λ within. subst (Wanted g ws k) (sym (getD-append-left (yield ks) (yield cs) 0 (k - i) (omega arith))) (key-wanted r i ks (yield cs ++ rest) w (f .0) b′ l within))
+      (λ near. subst (Wanted g ws k) (sym (getD-behind (yield ks) (yield cs) i k near))
+      (key-wanted s j cs rest (behind-wanted r i (left g s) ks (yield cs ++ rest) w (f .0) b′ near (f .1) (f .2)) (f .3)
+      (begins-next ws (yield ks) (yield cs ++ rest) i k near b′) near (omega arith)))
+      (cases-lt k j)
