@@ -18,6 +18,7 @@ matched-within (w ∷ ws) zero c h = omega arith
 matched-within (w ∷ ws) (suc j) c h = omega (arith, matched-within ws j c h)
 
 module _ (ws : List Word) where
+  -- how many they are
   pub length-between : (i k : ℕ) → i ≤ k → k ≤ length ws → length (between i k ws) ≡ k - i
   length-between i k h l = length-take-le (k - i) (drop i ws) (omega (arith, length-drop i ws))
 
@@ -47,17 +48,18 @@ module _ (ws : List Word) where
   between-join i j k h l =
       let a : (j - i) + (k - j) ≡ k - i = omega arith in
       let b : i + (j - i) ≡ j = omega arith in
-      sym (ap (λ n. take n (drop i ws)) (sym a) ∙ (take-add (j - i) (k - j) (drop i ws)
-      ∙ ap (λ us. between i j ws ++ take (k - j) us) (drop-drop (j - i) i ws ∙ ap (λ n. drop n ws) b)))
+      let rest = drop-drop (j - i) i ws ∙ ap (λ n. drop n ws) b in
+      ap (λ us. between i j ws ++ take (k - j) us) (sym rest) ∙ (sym (take-add (j - i) (k - j) (drop i ws)) ∙ ap (λ n. take n (drop i ws)) a)
 
   -- the first word and the others
   pub between-cons : (j k : ℕ) → j < k → k ≤ length ws → between j k ws ≡ getD ws j blank ∷ between (suc j) k ws
   between-cons j k h l = sym (between-join j (suc j) k (omega arith) h) ∙ ap (λ us. us ++ between (suc j) k ws) (between-one j (omega arith))
 
+  -- behind the first i words
   pub take-between : (i k : ℕ) → i ≤ k → take i ws ++ between i k ws ≡ take k ws
   take-between i k h = ap (λ us. us ++ between i k ws) (sym (between-first i)) ∙ (between-join 0 i k (omega arith) h ∙ between-first k)
 
-  -- taken apart
+  -- without the first n of them
   pub between-back : (i k n : ℕ) → i + n ≤ k → drop n (between i k ws) ≡ between (i + n) k ws
   between-back i k n h =
       let e : k - i ≡ n + (k - (i + n)) = omega arith in

@@ -31,9 +31,6 @@ record Placed (g : Grammar) (ws : List Word) (k X : ℕ) (t : Tree g X) : Type 0
 abbrev Context : Grammar → List Word → ℕ → ℕ → Type 0
 Context g ws k X = (t : Tree g X) → Placed g ws k X t
 
-regroup : (b k l r a : List ℕ) → b ++ (((k ++ l) ++ r) ++ a) ≡ (b ++ k) ++ (l ++ (r ++ a))
-regroup b k l r a = simp append-assoc
-
 module _ (g : Grammar) (fair : Fair g) (ws : List Word) where
   -- children filled up to a reading
   filled : (r : ℕ) (ks : Children) → Fits g r ks → Filled g r ks
@@ -58,8 +55,7 @@ module _ (g : Grammar) (fair : Fair g) (ws : List Word) where
     reading = p .reading;
     before = p .before ++ yield ks;
     after = all .rest ++ p .after;
-    yields = p .yields ∙ (ap (λ y. p .before ++ (y ++ p .after)) (all .yields ∙ ap (λ y. y ++ all .rest) (push-yield g X ks t))
-        ∙ regroup (p .before) (yield ks) (leaves g X t) (all .rest) (p .after));
+    yields = p .yields ∙ simp (all .yields, push-yield, append-assoc);
     is = is-between ws (p .before) (yield ks) i k (omega arith) (p .is) is;
     uses = λ u w. p .uses u (all .uses i u (push-below g X r i ks t u (subst (λ n. Below g X n t u) (sym e) w)));
   }
@@ -82,6 +78,7 @@ module _ (g : Grammar) (fair : Fair g) (ws : List Word) where
   corner-context k X _ l con (down r n c) =
       next-context r 0 k k (corner-context k X (left g r) l con c) (subst (Done g r 0) (sym (between-none ws k)) (done-none g r n)) (fair .filled r n) (omega arith) l
 
+  -- what may start after word k stands there, and so does the left side of an item's rule where the item starts
   mutual
     wanted-context : (k Y : ℕ) → Wanted g ws k Y → Context g ws k Y
     wanted-context _ _ (first Y c) = corner-context 0 (g .start) Y (omega arith) start-context c
@@ -97,8 +94,10 @@ module _ (g : Grammar) (fair : Fair g) (ws : List Word) where
       → Is (yield ks) (between i k ws) → i + length (yield ks) ≡ k → Used g (take k ws) (item r (count ks) i k)
   placed-used r i k ks all p l is e = record {
     reading = p .reading;
-    begins = subst (λ y. Begins y (take k ws)) (sym (p .yields ∙ (ap (λ y. p .before ++ (y ++ p .after)) (all .yields)
-        ∙ simp append-assoc))) (is-begins (p .before ++ yield ks) (all .rest ++ p .after) (take k ws) (is-between ws (p .before) (yield ks) i k (omega arith) (p .is) is));
+    begins =
+        let q = all .rest ++ p .after in
+        let same : yield (p .reading .children) ≡ (p .before ++ yield ks) ++ q = p .yields ∙ simp (all .yields, append-assoc) in
+        subst (λ y. Begins y (take k ws)) (sym same) (is-begins (p .before ++ yield ks) q (take k ws) (is-between ws (p .before) (yield ks) i k (omega arith) (p .is) is));
     uses = p .uses (item r (count ks) i k) (all .uses i (item r (count ks) i k) (subst (λ n. Uses r i ks (item r (count ks) i n)) e (uses-last r i ks l)));
   }
 
@@ -108,9 +107,9 @@ module _ (g : Grammar) (fair : Fair g) (ws : List Word) where
       let b = held-is g fair ws r d i k h in
       let ks = b .done .children in
       let all = filled r ks (b .done .fits) in
-      subst (λ n. Used g (take k ws) (item r n i k)) (b .done .many)
-      (placed-used r i k ks all (held-context r d i k h (inr (filled-reading g r ks all))) (omega (arith, b .done .many, b .some)) (b .done .is)
-      (omega (arith, b .forward, b .done .is .long, length-between ws i k (b .forward) (b .ends))))
+      let p = held-context r d i k h (inr (filled-reading g r ks all)) in
+      let e : i + length (yield ks) ≡ k = omega (arith, b .forward, b .done .is .long, length-between ws i k (b .forward) (b .ends)) in
+      subst (λ n. Used g (take k ws) (item r n i k)) (b .done .many) (placed-used r i k ks all p (omega (arith, b .done .many, b .some)) (b .done .is) e)
 
   -- a key that may start after the last word goes on with the words to a programme
   pub wanted-begun : (c : ℕ) → Key g c → Wanted g ws (length ws) c → Begun g (ws ++ (only c ∷ []))

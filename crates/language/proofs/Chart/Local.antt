@@ -19,7 +19,7 @@ use Rattle.language.proofs.Chart.Fair.{Fair}
 use Rattle.language.proofs.Chart.Turned.{Tree, leaves, fits-numbered}
 
 module _ (g : Grammar) (fair : Fair g) where
-  -- children have keys
+  -- children have some keys, and so has a tree
   pub yield-some : (r : ℕ) (ks : Children) → Fits g r ks → 1 ≤ count ks → 1 ≤ length (yield ks)
   yield-some r none f l = l
   yield-some r (key ks c) f l = omega (arith, length-append (yield ks) (c ∷ []))
@@ -33,7 +33,7 @@ module _ (g : Grammar) (fair : Fair g) where
       yield-some (t .by) (t .children) (t .fits) (omega (arith, t .whole, fair .filled (t .by) (fits-numbered g (t .by) (t .children) (t .fits))))
 
 module _ (g : Grammar) (fair : Fair g) (ws : List Word) where
-  -- words that are read are some
+  -- symbols read some words, so their end is past their start
   pub done-forward : (r d i k : ℕ) → Done g r d (between i k ws) → 1 ≤ d → i < k
   done-forward r d i k h l = between-some ws i k (omega (arith, h .is .long, yield-some g fair r (h .children) (h .fits) (omega (arith, h .many))))
 
@@ -51,21 +51,23 @@ module _ (g : Grammar) (fair : Fair g) (ws : List Word) where
   -- symbols of a rule that may start there, and that read the words between, are an item
   pub done-held : (r d i k : ℕ) → Wanted g ws i (left g r) → Done g r d (between i k ws) → 1 ≤ d → k ≤ length ws → Held g ws r d i k
   done-held r d i k w h l short =
-      let long : i + length (yield (h .children)) ≡ k = omega (arith, h .is .long, done-forward r d i k h l, length-between ws i k (omega (arith, done-forward r d i k h l)) short) in
+      let some = done-forward r d i k h l in
+      let long : i + length (yield (h .children)) ≡ k = omega (arith, h .is .long, length-between ws i k (omega arith) short) in
       subst (λ n. Held g ws r n i k) (h .many) (children-held r i k (h .children) w (h .fits) (omega (arith, h .many)) (h .is) long short)
 
   -- a reading of a part that may start there, of the words between, is a finished item
   pub reads-held : (X j k : ℕ) → Wanted g ws j X → (h : Reads g X (between j k ws)) → k ≤ length ws → Held g ws (h .reading .by) (size g (h .reading .by)) j k
   reads-held X j k w h short =
       let t = h .reading in
-      done-held (t .by) (size g (t .by)) j k (subst (Wanted g ws j) (sym (t .heads)) w)
-      (record { children = t .children; fits = t .fits; many = t .whole; is = h .is })
-      (fair .filled (t .by) (fits-numbered g (t .by) (t .children) (t .fits))) short
+      let done : Done g (t .by) (size g (t .by)) (between j k ws) = record { children = t .children; fits = t .fits; many = t .whole; is = h .is } in
+      let some = fair .filled (t .by) (fits-numbered g (t .by) (t .children) (t .fits)) in
+      done-held (t .by) (size g (t .by)) j k (subst (Wanted g ws j) (sym (t .heads)) w) done some short
 
   -- an item is symbols that read the words between
   pub held-done : (r d i k : ℕ) → Held g ws r d i k → Done g r d (between i k ws)
   held-done r d i k h = held-is g fair ws r d i k h .done
 
+  -- both ways
   pub held-locally : (r d i k : ℕ) → Held g ws r d i k ↔ Locally g ws r d i k
   held-locally r d i k = (
     (λ h. let b = held-is g fair ws r d i k h in record { wanted = held-wanted g ws r d i k h; done = b .done; some = b .some; ends = b .ends }),
@@ -79,11 +81,12 @@ module _ (g : Grammar) (fair : Fair g) (ws : List Word) where
   tree-spans X j k (inr t) w is l short =
       subst (λ Y. Spans g ws Y j k) (t .heads) (finished (t .by) j k (reads-held X j k w (record { reading = t; is = is }) short))
 
-  -- a symbol that may start there spans exactly the words between that it reads
+  -- a symbol that may start there spans the words between if it reads them
   pub covers-spans : (X j k : ℕ) → Wanted g ws j X → Covers g X (between j k ws) → k ≤ length ws → Spans g ws X j k
   covers-spans X j k w c short =
       let t = covers-grown g X (between j k ws) c in
       tree-spans X j k (t .tree) w (t .is) (covers-forward X j k c) short
 
+  -- a symbol reads the words between that it spans
   pub spans-covers : (X j k : ℕ) → Spans g ws X j k → Covers g X (between j k ws)
   spans-covers X j k s = spans-is g fair ws X j k s .covers

@@ -34,11 +34,12 @@ module _ (g : Grammar) (fair : Fair g) (ws : List Word) where
   begins-between : (p : List ℕ) (k : ℕ) → Begins p (take k ws) → Begins (p ++ []) (between 0 k ws)
   begins-between p k b = subst₂ Begins (sym (append-nil p)) (sym (between-first ws k)) b
 
+  -- the ways back: an item that is used is held, a key that goes on may start, a programme is whole
   used-held : (r d i k : ℕ) → k ≤ length ws → Used g (take k ws) (item r d i k) → Held g ws r d i k
   used-held r d i k short u =
       let t = u .reading in
-      uses-held g fair ws k short (t .by) 0 (t .children) [] (start-wanted (t .by) (t .heads)) (t .fits) (begins-between (yield (t .children)) k (u .begins))
-      (item r d i k) (u .uses) (omega arith)
+      let b = begins-between (yield (t .children)) k (u .begins) in
+      uses-held g fair ws k short (t .by) 0 (t .children) [] (start-wanted (t .by) (t .heads)) (t .fits) b (item r d i k) (u .uses) (omega arith)
 
   begun-wanted : (c : ℕ) → Begun g (ws ++ (only c ∷ [])) → Wanted g ws (length ws) c
   begun-wanted c h =
@@ -48,8 +49,8 @@ module _ (g : Grammar) (fair : Fair g) (ws : List Word) where
       let last = begins-key p ws c (h .begins) in
       let b = subst (Begins p) (take-append-seam ws (only c ∷ []) ∙ sym (take-length ws)) (begins-take p (ws ++ (only c ∷ [])) n (h .begins)) in
       let e : n - 0 ≡ n = omega arith in
-      subst (Wanted g ws n) (ap (λ m. getD p m 0) e ∙ last .1)
-      (key-wanted g fair ws n (omega arith) (t .by) 0 (t .children) [] (start-wanted (t .by) (t .heads)) (t .fits) (begins-between p n b) (omega arith) (omega (arith, last .0)))
+      let w = key-wanted g fair ws n (omega arith) (t .by) 0 (t .children) [] (start-wanted (t .by) (t .heads)) (t .fits) (begins-between p n b) (omega arith) (omega (arith, last .0)) in
+      subst (Wanted g ws n) (ap (λ m. getD p m 0) e ∙ last .1) w
 
   whole-programme : Whole g ws → Programme g ws
   whole-programme h =
@@ -57,11 +58,13 @@ module _ (g : Grammar) (fair : Fair g) (ws : List Word) where
       subst₂ (Reads g) (h .heads) (between-all ws) (done-reads g (h .by) (between 0 (length ws) ws) done)
 
   programme-whole : Programme g ws → Whole g ws
-  programme-whole h = record {
-    by = h .reading .by;
-    heads = h .reading .heads;
-    held = reads-held g fair ws (g .start) 0 (length ws) (first (g .start) self) (record { reading = h .reading; is = subst (Is (yield (h .reading .children))) (sym (between-all ws)) (h .is) }) (omega arith);
-  }
+  programme-whole h =
+      let reads = subst (Is (yield (h .reading .children))) (sym (between-all ws)) (h .is) in
+      record {
+        by = h .reading .by;
+        heads = h .reading .heads;
+        held = reads-held g fair ws (g .start) 0 (length ws) (first (g .start) self) (record { reading = h .reading; is = reads }) (omega arith);
+      }
 
   -- the chart is what the theorem says of it
   pub chart-is : ChartIs g ws

@@ -29,6 +29,7 @@ abbrev pub push : (g : Grammar) (X : ℕ) → Children → Tree g X → Children
 push g X ks (inl h) = key ks X
 push g X ks (inr t) = part ks (t .by) (t .children)
 
+-- children stand under a rule that there is, and are no more than its symbols
 pub fits-numbered : (g : Grammar) (r : ℕ) (ks : Children) → Fits g r ks → Numbered g r
 fits-numbered g r none f = f
 fits-numbered g r (key ks c) f = fits-numbered g r ks (f .0)
@@ -46,6 +47,7 @@ uses-last r i (key ks c) h = inr refl
 uses-last r i (part ks s cs) h = inr (inr refl)
 
 module _ (g : Grammar) (X : ℕ) where
+  -- one more child stands under the next symbol, is counted, and its keys come last
   pub push-fits : (r : ℕ) (ks : Children) (t : Tree g X) → Fits g r ks → count ks < size g r → symbol g r (count ks) ≡ X → Fits g r (push g X ks t)
   push-fits r ks (inl h) f l e = (f, l, e, h)
   push-fits r ks (inr t) f l e = (f, l, e ∙ sym (t .heads), t .fits, t .whole)
@@ -119,23 +121,21 @@ module _ (g : Grammar) where
   turned X (Productive.key c h) = inl h
   turned X (Productive.part r n kids) = inr (left-reading g r (λ d h. turned (symbol g r d) (kids d h)) n)
 
+  last-productive : (r X d : ℕ) (ks : Children) → d ≡ count ks → symbol g r (count ks) ≡ X → Productive g X → Productive g (symbol g r d)
+  last-productive r X d ks e same = subst (Productive g) (sym (ap (symbol g r) e ∙ same))
+
   -- a symbol with a child can be turned into keys alone
   children-productive : (r : ℕ) (ks : Children) → Fits g r ks → (d : ℕ) → d < count ks → Productive g (symbol g r d)
   children-productive r none f d h = absurd (omega arith)
-  children-productive r (key ks c) f d h = ⊎-elim
-      (children-productive r ks (f .0) d)
-      (λ l. let e : d ≡ count ks = omega arith in subst (Productive g) (sym (ap (symbol g r) e ∙ f .2)) (Productive.key c (f .3)))
-      (cases-lt d (count ks))
+  children-productive r (key ks c) f d h =
+      ⊎-elim (children-productive r ks (f .0) d) (λ l. last-productive r c d ks (omega arith) (f .2) (Productive.key c (f .3))) (cases-lt d (count ks))
   children-productive r (part ks s cs) f d h =
       let below = children-productive s cs (f .3) in
       let turns = Productive.part s (fits-numbered g s cs (f .3)) (λ b l. below b (omega (arith, f .4))) in
-      ⊎-elim
-      (children-productive r ks (f .0) d)
-      (λ l. let e : d ≡ count ks = omega arith in subst (Productive g) (sym (ap (symbol g r) e ∙ f .2)) turns)
-      (cases-lt d (count ks))
+      ⊎-elim (children-productive r ks (f .0) d) (λ l. last-productive r (left g s) d ks (omega arith) (f .2) turns) (cases-lt d (count ks))
 
   -- a part with a reading can be turned into keys alone
   pub reading-productive : (X : ℕ) → Reading g X → Productive g X
-  reading-productive X t = subst (Productive g) (t .heads)
-      (Productive.part (t .by) (fits-numbered g (t .by) (t .children) (t .fits))
-      (λ d l. children-productive (t .by) (t .children) (t .fits) d (omega (arith, t .whole))))
+  reading-productive X t =
+      let kids = children-productive (t .by) (t .children) (t .fits) in
+      subst (Productive g) (t .heads) (Productive.part (t .by) (fits-numbered g (t .by) (t .children) (t .fits)) (λ d l. kids d (omega (arith, t .whole))))
