@@ -1,3 +1,4 @@
+pub mod Chart
 pub mod Columns
 pub mod Corners
 pub mod Fits

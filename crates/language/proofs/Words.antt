@@ -1,6 +1,6 @@
 -- Lists of keys that begin with words, or are words, put together and taken apart.
-use mathlib.Core.Path.{_≡_, refl, ap}
-use mathlib.Core.List.{List, [], _∷_, _++_}
+use mathlib.Core.Path.{_≡_, refl, ap, subst}
+use mathlib.Core.List.{List, [], _∷_, _++_, append-assoc, append-nil}
 use Prim.Native.Nat.{ℕ, zero, suc, _≤_}
 use native.Mathlib.Omega.{arith}
 use lib.Dec.{T}
@@ -14,6 +14,10 @@ begins-append [] (w ∷ us) q vs h b = absurd (h .begins)
 begins-append (c ∷ p) [] q vs h b = absurd (omega (arith, h .long))
 begins-append (c ∷ p) (w ∷ us) q vs h b =
     (h .begins .0, begins-append p us q vs (record { begins = h .begins .1; long = omega (arith, h .long) }) b)
+
+-- keys that are words begin with them, whatever keys stand behind
+pub is-begins : (p q : List ℕ) (us : List Word) → Is p us → Begins (p ++ q) us
+is-begins p q us h = subst (Begins (p ++ q)) (append-nil us) (begins-append p us q [] h tt)
 
 pub is-append : (p : List ℕ) (us : List Word) (q : List ℕ) (vs : List Word) → Is p us → Is q vs → Is (p ++ q) (us ++ vs)
 is-append p us q vs h k = record {
@@ -42,6 +46,9 @@ is-back p q ws h = record {
   begins = begins-back p q ws (h .begins);
   long = simp length-drop (omega (arith, simp length-append at (h .long)));
 }
+
+pub begins-assoc : (p q r : List ℕ) (ws : List Word) → Begins ((p ++ q) ++ r) ws → Begins (p ++ (q ++ r)) ws
+begins-assoc p q r ws b = subst (λ y. Begins y ws) (append-assoc p q r) b
 
 -- fewer words: still begun
 pub begins-take : (p : List ℕ) (ws : List Word) (n : ℕ) → Begins p ws → Begins p (take n ws)

@@ -1,0 +1,9 @@
+pub mod Between
+pub mod Complete
+pub mod Context
+pub mod Done
+pub mod Fair
+pub mod Local
+pub mod Theorem
+pub mod Turned
+pub mod Used

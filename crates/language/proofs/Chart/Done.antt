@@ -1,0 +1,105 @@
+-- What an item and a span of the chart say of their own words.
+use mathlib.Core.Path.{refl, sym, ap, subst, _∙_}
+use mathlib.Core.Logic.{inl, inr}
+use mathlib.Core.List.{List, [], _++_}
+use Prim.Native.Nat.{ℕ, suc, _<_, _≤_}
+use native.Mathlib.Omega.{arith}
+use lib.Dec.{T}
+use lib.ListN.{length, getD}
+use Rattle.language.specs.Book.{Grammar, Key, Numbered, left, size, symbol}
+use Rattle.language.specs.Words.{Word, blank, Is}
+use Rattle.language.specs.Readings.{none, yield, Done, Reads}
+use Rattle.language.specs.Chart.{Wanted, Held, begin, advance, Spans, finished}
+use Rattle.language.specs.Choice.{Covers}
+use Rattle.language.specs.Theorem.{between}
+use Rattle.language.proofs.Words.{is-append, single-is}
+use Rattle.language.proofs.Chart.Between.{matched-within, between-none, between-one, between-join}
+use Rattle.language.proofs.Chart.Fair.{Fair}
+use Rattle.language.proofs.Chart.Turned.{Tree, leaves, push, push-fits, push-count, push-yield}
+
+module _ (g : Grammar) where
+  -- a symbol that reads words has a tree that does
+  pub record Grown (X : ℕ) (vs : List Word) : Type 0 where
+    pub tree : Tree g X
+    pub is : Is (leaves g X tree) vs
+
+  pub covers-grown : (X : ℕ) (vs : List Word) → Covers g X vs → Grown X vs
+  covers-grown X _ (Covers.word w h m) = record { tree = inl h; is = single-is X w m }
+  covers-grown X _ (Covers.reading vs h) = record { tree = inr (h .reading); is = h .is }
+
+  -- no symbol done
+  pub done-none : (r : ℕ) → Numbered g r → Done g r 0 []
+  done-none r n = record { children = none; fits = n; many = refl; is = record { begins = tt; long = refl } }
+
+  -- one more symbol done
+  done-more : (r d : ℕ) (us vs : List Word) → Done g r d us → d < size g r → Covers g (symbol g r d) vs → Done g r (suc d) (us ++ vs)
+  done-more r d us vs h l c =
+      let X = symbol g r d in
+      let t = covers-grown X vs c in
+      record {
+        children = push g X (h .children) (t .tree);
+        fits = push-fits g X r (h .children) (t .tree) (h .fits) (omega (arith, h .many)) (ap (symbol g r) (h .many));
+        many = push-count g X (h .children) (t .tree) ∙ ap suc (h .many);
+        is = subst (λ p. Is p (us ++ vs)) (sym (push-yield g X (h .children) (t .tree))) (is-append (yield (h .children)) us (leaves g X (t .tree)) vs (h .is) (t .is));
+      }
+
+  -- all symbols done
+  pub done-reads : (r : ℕ) (vs : List Word) → Done g r (size g r) vs → Reads g (left g r) vs
+  done-reads r vs h = record {
+    reading = record { by = r; children = h .children; heads = refl; fits = h .fits; whole = h .many };
+    is = h .is;
+  }
+
+module _ (g : Grammar) (ws : List Word) where
+  -- an item ends within the words, and its symbols done read the words between
+  pub record HeldIs (r d i k : ℕ) : Type 0 where
+    pub done : Done g r d (between i k ws)
+    pub some : 1 ≤ d
+    pub forward : i ≤ k
+    pub ends : k ≤ length ws
+
+  -- a span ends within the words, and its symbol reads the words between
+  pub record SpansIs (X j k : ℕ) : Type 0 where
+    pub covers : Covers g X (between j k ws)
+    pub forward : j ≤ k
+    pub ends : k ≤ length ws
+
+  held-more : (r d i j k : ℕ) → Done g r d (between i j ws) → i ≤ j → d < size g r → SpansIs (symbol g r d) j k → HeldIs r (suc d) i k
+  held-more r d i j k h f l s = record {
+    done = subst (Done g r (suc d)) (between-join ws i j k f (s .forward)) (done-more g r d (between i j ws) (between j k ws) h l (s .covers));
+    some = omega arith;
+    forward = omega arith;
+    ends = s .ends;
+  }
+
+  spans-word : (c j : ℕ) → Key g c → T (getD ws j blank c) → SpansIs c j (suc j)
+  spans-word c j h m =
+      let l = matched-within ws j c m in
+      record {
+        covers = subst (Covers g c) (sym (between-one ws j l)) (Covers.word (getD ws j blank) h m);
+        forward = omega arith;
+        ends = l;
+      }
+
+module _ (g : Grammar) (fair : Fair g) (ws : List Word) where
+  held-first : (r i k : ℕ) → Numbered g r → SpansIs g ws (symbol g r 0) i k → HeldIs g ws r 1 i k
+  held-first r i k n = held-more g ws r 0 i i k (subst (Done g r 0) (sym (between-none ws i)) (done-none g r n)) (omega arith) (fair .filled r n)
+
+  -- what every item and every span says
+  mutual
+    pub held-is : (r d i k : ℕ) → Held g ws r d i k → HeldIs g ws r d i k
+    held-is _ _ _ _ (begin r i k n w s) = held-first r i k n (spans-is (symbol g r 0) i k s)
+    held-is _ _ _ _ (advance r d i j k h l s) =
+        let b = held-is r d i j h in
+        held-more g ws r d i j k (b .done) (b .forward) l (spans-is (symbol g r d) j k s)
+
+    pub spans-is : (X j k : ℕ) → Spans g ws X j k → SpansIs g ws X j k
+    spans-is _ _ _ (Spans.word c j h m) = spans-word g ws c j h m
+    spans-is _ _ _ (finished r j k h) =
+        let b = held-is r (size g r) j k h in
+        record { covers = Covers.reading (between j k ws) (done-reads g r (between j k ws) (b .done)); forward = b .forward; ends = b .ends }
+
+-- the left side of an item's rule may start where the item starts
+pub held-wanted : (g : Grammar) (ws : List Word) (r d i k : ℕ) → Held g ws r d i k → Wanted g ws i (left g r)
+held-wanted g ws _ _ _ _ (begin r i k n w s) = w
+held-wanted g ws _ _ _ _ (advance r d i j k h l s) = held-wanted g ws r d i j h
