@@ -1,11 +1,11 @@
 -- Lists of keys that begin with words, or are words, put together and taken apart.
 use mathlib.Core.Path.{_≡_, refl, ap, subst}
 use mathlib.Core.List.{List, [], _∷_, _++_, append-assoc, append-nil}
-use Prim.Native.Nat.{ℕ, zero, suc, _≤_}
+use Prim.Native.Nat.{ℕ, zero, suc, _<_, _≤_}
 use native.Mathlib.Omega.{arith}
 use lib.Dec.{T}
-use lib.ListN.{length, take, drop, length-append, length-drop}
-use Rattle.language.specs.Words.{Word, Begins, Is}
+use lib.ListN.{length, getD, take, drop, length-append, length-drop}
+use Rattle.language.specs.Words.{Word, blank, Begins, Is}
 
 -- keys that are words, and keys behind them that begin with words behind those
 pub begins-append : (p : List ℕ) (us : List Word) (q : List ℕ) (vs : List Word) → Is p us → Begins q vs → Begins (p ++ q) (us ++ vs)
@@ -75,3 +75,9 @@ single-is c w h = record { begins = (h, tt); long = refl }
 pub is-none : (ws : List Word) → Is [] ws → ws ≡ []
 is-none [] h = refl
 is-none (w ∷ ws) h = absurd (h .begins)
+
+-- a place whose word matches a key is in the words
+pub matched-inside : (ws : List Word) (j c : ℕ) → T (getD ws j blank c) → j < length ws
+matched-inside [] j c h = absurd h
+matched-inside (w ∷ ws) zero c h = omega arith
+matched-inside (w ∷ ws) (suc j) c h = let l : j < length ws = matched-inside ws j c h in omega arith

@@ -1,12 +1,13 @@
 -- The theorem of the chart: what items, lit keys and whole say of programmes and their readings.
-use mathlib.Core.Logic.{_↔_}
+use mathlib.Core.Logic.{_↔_, _⊎_}
 use mathlib.Core.List.{List, [], _∷_, _++_}
 use Prim.Native.Nat.{ℕ, _-_, _≤_}
 use lib.ListN.{length, take, drop}
 use Rattle.language.specs.Book.{Grammar, Key, Meaning, left}
+use Rattle.language.specs.Closure.{Productive}
 use Rattle.language.specs.Sound.{Sound}
 use Rattle.language.specs.Words.{Word, only}
-use Rattle.language.specs.Readings.{Done, item, Used, Begun, Programme}
+use Rattle.language.specs.Readings.{Reading, Done, item, Used, Begun, Programme}
 use Rattle.language.specs.Chart.{Wanted, Held, Whole}
 
 -- the words after the first i and up to word k
@@ -27,6 +28,10 @@ pub record ChartIs (g : Grammar) (ws : List Word) : Type 0 where
   pub lit : (c : ℕ) → Key g c → Wanted g ws (length ws) c ↔ Begun g (ws ++ (only c ∷ []))
   pub whole : Whole g ws ↔ Programme g ws
   pub spans : (r d i k : ℕ) → Held g ws r d i k ↔ Locally g ws r d i k
+
+-- what can be turned into keys alone is a key or has a reading
+abbrev pub TurnedTheorem : Type 0
+TurnedTheorem = (g : Grammar) (X : ℕ) → Productive g X ↔ (Key g X ⊎ Reading g X)
 
 -- the theorem, for every book that the check accepts and every list of words
 abbrev pub ChartTheorem : Type 0

@@ -11,12 +11,6 @@ use Rattle.language.specs.Words.{Word, blank, Begins, Is}
 use Rattle.language.specs.Theorem.{between}
 use Rattle.language.proofs.Words.{is-append, begins-back}
 
--- a place whose word matches a key is in the words
-pub matched-within : (ws : List Word) (j c : ℕ) → T (getD ws j blank c) → j < length ws
-matched-within [] j c h = absurd h
-matched-within (w ∷ ws) zero c h = omega arith
-matched-within (w ∷ ws) (suc j) c h = omega (arith, matched-within ws j c h)
-
 module _ (ws : List Word) where
   -- how many they are
   pub length-between : (i k : ℕ) → i ≤ k → k ≤ length ws → length (between i k ws) ≡ k - i

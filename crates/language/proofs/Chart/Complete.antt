@@ -13,7 +13,7 @@ use Rattle.language.specs.Theorem.{between}
 use Rattle.language.proofs.Words.{begins-assoc}
 use Rattle.language.proofs.Chart.Between.{begins-next, begins-match}
 use Rattle.language.proofs.Chart.Fair.{Fair}
-use Rattle.language.proofs.Chart.Turned.{fits-numbered}
+use Rattle.language.proofs.Fits.{fits-numbered}
 
 -- the first d symbols of rule r from after word i to word k: an item, or none of them where the left side may start
 pub data Stood (g : Grammar) (ws : List Word) (r : ℕ) : ℕ → ℕ → ℕ → Type 0 where

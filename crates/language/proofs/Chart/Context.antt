@@ -13,10 +13,12 @@ use Rattle.language.specs.Readings.{Children, yield, count, Fits, Reading, Ite
 use Rattle.language.specs.Chart.{Corner, self, down, Wanted, first, next, Held, begin, advance}
 use Rattle.language.specs.Theorem.{between}
 use Rattle.language.proofs.Words.{begins-append, is-begins}
+use Rattle.language.proofs.Fits.{fits-numbered, fits-count}
 use Rattle.language.proofs.Chart.Between.{length-between, between-none, is-between}
-use Rattle.language.proofs.Chart.Done.{held-is, done-none}
+use Rattle.language.proofs.Columns.Bounds.{held-bounds}
+use Rattle.language.proofs.Chart.Done.{held-done, done-none}
 use Rattle.language.proofs.Chart.Fair.{Fair}
-use Rattle.language.proofs.Chart.Turned.{Tree, leaves, Below, push, push-fits, push-yield, push-below, fits-numbered, fits-count, uses-last, Filled, filled-reading, fill}
+use Rattle.language.proofs.Chart.Turned.{Tree, leaves, Below, push, push-fits, push-yield, push-below, uses-last, Filled, filled-reading, fill}
 
 -- a tree of the symbol X stands in a reading of the start part: before it the first k words, and its items are used
 record Placed (g : Grammar) (ws : List Word) (k X : ℕ) (t : Tree g X) : Type 0 where
@@ -83,8 +85,8 @@ module _ (g : Grammar) (fair : Fair g) (ws : List Word) where
     wanted-context : (k Y : ℕ) → Wanted g ws k Y → Context g ws k Y
     wanted-context _ _ (first Y c) = corner-context 0 (g .start) Y (omega arith) start-context c
     wanted-context _ _ (next r d i k Y h l c) =
-        let b = held-is g fair ws r d i k h in
-        corner-context k (symbol g r d) Y (b .ends) (next-context r d i k (held-context r d i k h) (b .done) l (b .forward) (b .ends)) c
+        let b = held-bounds g ws (fair .filled) r d i k h in
+        corner-context k (symbol g r d) Y (b .ends) (next-context r d i k (held-context r d i k h) (held-done g fair ws r d i k h) l (omega (arith, b .forward)) (b .ends)) c
 
     held-context : (r d i k : ℕ) → Held g ws r d i k → Context g ws i (left g r)
     held-context _ _ _ _ (begin r i k n w s) = wanted-context i (left g r) w
@@ -104,12 +106,14 @@ module _ (g : Grammar) (fair : Fair g) (ws : List Word) where
   -- a held item is used by a programme that begins with the words up to its end
   pub held-used : (r d i k : ℕ) → Held g ws r d i k → Used g (take k ws) (item r d i k)
   held-used r d i k h =
-      let b = held-is g fair ws r d i k h in
-      let ks = b .done .children in
-      let all = filled r ks (b .done .fits) in
+      let b = held-bounds g ws (fair .filled) r d i k h in
+      let done = held-done g fair ws r d i k h in
+      let ks = done .children in
+      let all = filled r ks (done .fits) in
       let p = held-context r d i k h (inr (filled-reading g r ks all)) in
-      let e : i + length (yield ks) ≡ k = omega (arith, b .forward, b .done .is .long, length-between ws i k (b .forward) (b .ends)) in
-      subst (λ n. Used g (take k ws) (item r n i k)) (b .done .many) (placed-used r i k ks all p (omega (arith, b .done .many, b .some)) (b .done .is) e)
+      let forward : i ≤ k = omega (arith, b .forward) in
+      let e : i + length (yield ks) ≡ k = omega (arith, done .is .long, length-between ws i k forward (b .ends)) in
+      subst (λ n. Used g (take k ws) (item r n i k)) (done .many) (placed-used r i k ks all p (omega (arith, done .many, b .some-done)) (done .is) e)
 
   -- a key that may start after the last word goes on with the words to a programme
   pub wanted-begun : (c : ℕ) → Key g c → Wanted g ws (length ws) c → Begun g (ws ++ (only c ∷ []))

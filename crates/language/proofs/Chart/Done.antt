@@ -12,8 +12,9 @@ use Rattle.language.specs.Readings.{none, yield, Done, Reads}
 use Rattle.language.specs.Chart.{Wanted, Held, begin, advance, Spans, finished}
 use Rattle.language.specs.Choice.{Covers}
 use Rattle.language.specs.Theorem.{between}
-use Rattle.language.proofs.Words.{is-append, single-is}
-use Rattle.language.proofs.Chart.Between.{matched-within, between-none, between-one, between-join}
+use Rattle.language.proofs.Words.{is-append, single-is, matched-inside}
+use Rattle.language.proofs.Columns.Bounds.{Within, held-bounds, spans-within}
+use Rattle.language.proofs.Chart.Between.{between-none, between-one, between-join}
 use Rattle.language.proofs.Chart.Fair.{Fair}
 use Rattle.language.proofs.Chart.Turned.{Tree, leaves, push, push-fits, push-count, push-yield}
 
@@ -50,54 +51,31 @@ module _ (g : Grammar) where
     is = h .is;
   }
 
-module _ (g : Grammar) (ws : List Word) where
-  -- an item ends within the words, and its symbols done read the words between
-  pub record HeldIs (r d i k : ℕ) : Type 0 where
-    pub done : Done g r d (between i k ws)
-    pub some : 1 ≤ d
-    pub forward : i ≤ k
-    pub ends : k ≤ length ws
-
-  -- a span ends within the words, and its symbol reads the words between
-  pub record SpansIs (X j k : ℕ) : Type 0 where
-    pub covers : Covers g X (between j k ws)
-    pub forward : j ≤ k
-    pub ends : k ≤ length ws
-
-  held-more : (r d i j k : ℕ) → Done g r d (between i j ws) → i ≤ j → d < size g r → SpansIs (symbol g r d) j k → HeldIs r (suc d) i k
-  held-more r d i j k h f l s = record {
-    done = subst (Done g r (suc d)) (between-join ws i j k f (s .forward)) (done-more g r d (between i j ws) (between j k ws) h l (s .covers));
-    some = omega arith;
-    forward = omega arith;
-    ends = s .ends;
-  }
-
-  spans-word : (c j : ℕ) → Key g c → T (getD ws j blank c) → SpansIs c j (suc j)
-  spans-word c j h m =
-      let l = matched-within ws j c m in
-      record {
-        covers = subst (Covers g c) (sym (between-one ws j l)) (Covers.word (getD ws j blank) h m);
-        forward = omega arith;
-        ends = l;
-      }
-
 module _ (g : Grammar) (fair : Fair g) (ws : List Word) where
-  held-first : (r i k : ℕ) → Numbered g r → SpansIs g ws (symbol g r 0) i k → HeldIs g ws r 1 i k
-  held-first r i k n = held-more g ws r 0 i i k (subst (Done g r 0) (sym (between-none ws i)) (done-none g r n)) (omega arith) (fair .filled r n)
+  word-covers : (c j : ℕ) → Key g c → T (getD ws j blank c) → Covers g c (between j (suc j) ws)
+  word-covers c j h m = subst (Covers g c) (sym (between-one ws j (matched-inside ws j c m))) (Covers.word (getD ws j blank) h m)
 
-  -- what every item and every span says
+  joined : (r d i j k : ℕ) → Done g r d (between i j ws) → i ≤ j → d < size g r → Within ws j k → Covers g (symbol g r d) (between j k ws) → Done g r (suc d) (between i k ws)
+  joined r d i j k h f l b c = subst (Done g r (suc d)) (between-join ws i j k f (omega (arith, b .forward))) (done-more g r d (between i j ws) (between j k ws) h l c)
+
+  spanned : (X j k : ℕ) → Spans g ws X j k → Within ws j k
+  spanned = spans-within g ws (fair .filled)
+
   mutual
-    pub held-is : (r d i k : ℕ) → Held g ws r d i k → HeldIs g ws r d i k
-    held-is _ _ _ _ (begin r i k n w s) = held-first r i k n (spans-is (symbol g r 0) i k s)
-    held-is _ _ _ _ (advance r d i j k h l s) =
-        let b = held-is r d i j h in
-        held-more g ws r d i j k (b .done) (b .forward) l (spans-is (symbol g r d) j k s)
+    -- the symbols done of an item read the words between
+    pub held-done : (r d i k : ℕ) → Held g ws r d i k → Done g r d (between i k ws)
+    held-done _ _ _ _ (begin r i k n w s) =
+        let X = symbol g r 0 in
+        joined r 0 i i k (subst (Done g r 0) (sym (between-none ws i)) (done-none g r n)) (omega arith) (fair .filled r n) (spanned X i k s) (spans-covers X i k s)
+    held-done _ _ _ _ (advance r d i j k h l s) =
+        let X = symbol g r d in
+        let b = held-bounds g ws (fair .filled) r d i j h in
+        joined r d i j k (held-done r d i j h) (omega (arith, b .forward)) l (spanned X j k s) (spans-covers X j k s)
 
-    pub spans-is : (X j k : ℕ) → Spans g ws X j k → SpansIs g ws X j k
-    spans-is _ _ _ (Spans.word c j h m) = spans-word g ws c j h m
-    spans-is _ _ _ (finished r j k h) =
-        let b = held-is r (size g r) j k h in
-        record { covers = Covers.reading (between j k ws) (done-reads g r (between j k ws) (b .done)); forward = b .forward; ends = b .ends }
+    -- a symbol reads the words between that it spans
+    pub spans-covers : (X j k : ℕ) → Spans g ws X j k → Covers g X (between j k ws)
+    spans-covers _ _ _ (Spans.word c j h m) = word-covers c j h m
+    spans-covers _ _ _ (finished r j k h) = Covers.reading (between j k ws) (done-reads g r (between j k ws) (held-done r (size g r) j k h))
 
 -- the left side of an item's rule may start where the item starts
 pub held-wanted : (g : Grammar) (ws : List Word) (r d i k : ℕ) → Held g ws r d i k → Wanted g ws i (left g r)

@@ -14,9 +14,11 @@ use Rattle.language.specs.Theorem.{between, Locally}
 use Rattle.language.proofs.Words.{is-begins}
 use Rattle.language.proofs.Chart.Between.{length-between, between-some, begins-match}
 use Rattle.language.proofs.Chart.Complete.{stood-held, children-stood}
-use Rattle.language.proofs.Chart.Done.{covers-grown, held-is, held-wanted, spans-is}
+use Rattle.language.proofs.Columns.Bounds.{held-bounds}
+use Rattle.language.proofs.Chart.Done.{covers-grown, held-done, held-wanted}
 use Rattle.language.proofs.Chart.Fair.{Fair}
-use Rattle.language.proofs.Chart.Turned.{Tree, leaves, fits-numbered}
+use Rattle.language.proofs.Chart.Turned.{Tree, leaves}
+use Rattle.language.proofs.Fits.{fits-numbered}
 
 module _ (g : Grammar) (fair : Fair g) where
   -- children have some keys, and so has a tree
@@ -63,14 +65,10 @@ module _ (g : Grammar) (fair : Fair g) (ws : List Word) where
       let some = fair .filled (t .by) (fits-numbered g (t .by) (t .children) (t .fits)) in
       done-held (t .by) (size g (t .by)) j k (subst (Wanted g ws j) (sym (t .heads)) w) done some short
 
-  -- an item is symbols that read the words between
-  pub held-done : (r d i k : ℕ) → Held g ws r d i k → Done g r d (between i k ws)
-  held-done r d i k h = held-is g fair ws r d i k h .done
-
   -- both ways
   pub held-locally : (r d i k : ℕ) → Held g ws r d i k ↔ Locally g ws r d i k
   held-locally r d i k = (
-    (λ h. let b = held-is g fair ws r d i k h in record { wanted = held-wanted g ws r d i k h; done = b .done; some = b .some; ends = b .ends }),
+    (λ h. let b = held-bounds g ws (fair .filled) r d i k h in record { wanted = held-wanted g ws r d i k h; done = held-done g fair ws r d i k h; some = b .some-done; ends = b .ends }),
     (λ h. done-held r d i k (h .wanted) (h .done) (h .some) (h .ends)),
   )
 
@@ -86,7 +84,3 @@ module _ (g : Grammar) (fair : Fair g) (ws : List Word) where
   covers-spans X j k w c short =
       let t = covers-grown g X (between j k ws) c in
       tree-spans X j k (t .tree) w (t .is) (covers-forward X j k c) short
-
-  -- a symbol reads the words between that it spans
-  pub spans-covers : (X j k : ℕ) → Spans g ws X j k → Covers g X (between j k ws)
-  spans-covers X j k s = spans-is g fair ws X j k s .covers

@@ -14,9 +14,10 @@ use Rattle.language.specs.Theorem.{between, ChartIs, ChartTheorem}
 use Rattle.language.proofs.Words.{begins-take}
 use Rattle.language.proofs.Chart.Between.{between-first, between-all}
 use Rattle.language.proofs.Chart.Context.{held-used, wanted-begun}
-use Rattle.language.proofs.Chart.Done.{held-is, done-reads}
+use Rattle.language.proofs.Chart.Done.{held-done, done-reads}
+use Rattle.language.proofs.Columns.Bounds.{held-bounds}
 use Rattle.language.proofs.Chart.Fair.{Fair, sound-fair}
-use Rattle.language.proofs.Chart.Local.{held-done, reads-held, held-locally}
+use Rattle.language.proofs.Chart.Local.{reads-held, held-locally}
 use Rattle.language.proofs.Chart.Used.{uses-held, key-wanted}
 
 -- keys that begin with words and then a key: that key stands behind the words
@@ -69,7 +70,7 @@ module _ (g : Grammar) (fair : Fair g) (ws : List Word) where
   -- the chart is what the theorem says of it
   pub chart-is : ChartIs g ws
   chart-is = record {
-    items = λ r d i k. ((λ h. (held-is g fair ws r d i k h .ends, held-used g fair ws r d i k h)), (λ h. used-held r d i k (h .0) (h .1)));
+    items = λ r d i k. ((λ h. (held-bounds g ws (fair .filled) r d i k h .ends, held-used g fair ws r d i k h)), (λ h. used-held r d i k (h .0) (h .1)));
     lit = λ c h. (wanted-begun g fair ws c h, begun-wanted c);
     whole = (whole-programme, programme-whole);
     spans = held-locally g fair ws;

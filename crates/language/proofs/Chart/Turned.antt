@@ -8,6 +8,8 @@ use lib.ListN.{length}
 use Rattle.std.proofs.shelf.Tests.{cases-lt}
 use Rattle.language.specs.Book.{Grammar, Key, Numbered, left, size, symbol}
 use Rattle.language.specs.Closure.{Productive}
+use Rattle.language.specs.Theorem.{TurnedTheorem}
+use Rattle.language.proofs.Fits.{fits-numbered}
 use Rattle.language.specs.Readings.{Children, none, key, part, yield, count, Fits, Reading, Item, Uses, reached}
 
 -- what can stand under a symbol: the key that it is, or a reading of the part that it is
@@ -28,17 +30,6 @@ Below g X i (inr t) u = Uses (t .by) i (t .children) u
 abbrev pub push : (g : Grammar) (X : ℕ) → Children → Tree g X → Children
 push g X ks (inl h) = key ks X
 push g X ks (inr t) = part ks (t .by) (t .children)
-
--- children stand under a rule that there is, and are no more than its symbols
-pub fits-numbered : (g : Grammar) (r : ℕ) (ks : Children) → Fits g r ks → Numbered g r
-fits-numbered g r none f = f
-fits-numbered g r (key ks c) f = fits-numbered g r ks (f .0)
-fits-numbered g r (part ks s cs) f = fits-numbered g r ks (f .0)
-
-pub fits-count : (g : Grammar) (r : ℕ) (ks : Children) → Fits g r ks → count ks ≤ size g r
-fits-count g r none f = omega arith
-fits-count g r (key ks c) f = f .1
-fits-count g r (part ks s cs) f = f .1
 
 -- the item of all children is used, if there is any child
 pub uses-last : (r i : ℕ) (ks : Children) → 0 < count ks → Uses r i ks (reached r i ks)
@@ -135,7 +126,10 @@ module _ (g : Grammar) where
       ⊎-elim (children-productive r ks (f .0) d) (λ l. last-productive r (left g s) d ks (omega arith) (f .2) turns) (cases-lt d (count ks))
 
   -- a part with a reading can be turned into keys alone
-  pub reading-productive : (X : ℕ) → Reading g X → Productive g X
+  reading-productive : (X : ℕ) → Reading g X → Productive g X
   reading-productive X t =
       let kids = children-productive (t .by) (t .children) (t .fits) in
       subst (Productive g) (t .heads) (Productive.part (t .by) (fits-numbered g (t .by) (t .children) (t .fits)) (λ d l. kids d (omega (arith, t .whole))))
+
+pub turned-theorem : TurnedTheorem
+turned-theorem g X = (turned g X, ⊎-elim (Productive.key X) (reading-productive g X))

@@ -16,7 +16,7 @@ use Rattle.language.proofs.Words.{begins-assoc}
 use Rattle.language.proofs.Chart.Between.{begins-next}
 use Rattle.language.proofs.Chart.Complete.{stood-wanted, stood-held, children-stood}
 use Rattle.language.proofs.Chart.Fair.{Fair}
-use Rattle.language.proofs.Chart.Turned.{fits-numbered}
+use Rattle.language.proofs.Fits.{fits-numbered}
 
 -- items that children use end where the children start or later
 uses-after : (r i : ℕ) (ks : Children) (u : Item) → Uses r i ks u → i ≤ u .end

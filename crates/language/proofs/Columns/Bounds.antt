@@ -8,12 +8,7 @@ use Rattle.language.specs.Book.{Grammar, Numbered, size}
 use Rattle.language.specs.Words.{Word, blank}
 use Rattle.language.specs.Chart.{Held, Spans, begin, advance, word, finished}
 use Rattle.language.specs.Columns.{InBounds}
-
--- a word that matches a key is one of the words
-pub matched-inside : (ws : List Word) (j c : ℕ) → T (getD ws j blank c) → j < length ws
-matched-inside [] j c h = absurd h
-matched-inside (w ∷ ws) zero c h = omega arith
-matched-inside (w ∷ ws) (suc j) c h = let l : j < length ws = matched-inside ws j c h in omega arith
+use Rattle.language.proofs.Words.{matched-inside}
 
 -- a span has a word at least, and ends within the words
 pub record Within (ws : List Word) (j k : ℕ) : Type 0 where

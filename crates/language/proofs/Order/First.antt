@@ -12,10 +12,12 @@ use Rattle.language.specs.Words.{Word}
 use Rattle.language.specs.Readings.{Children, Reads}
 use Rattle.language.specs.Moves.{below}
 use Rattle.language.specs.Order.{Before, Same, First, FirstTheorem}
+use Rattle.language.proofs.Moves.Rules.{few-rules-below}
 use Rattle.language.proofs.Order.Listed.{Listed, Below, Made, listed-one, listed-same, listed-when, listed-below, listed-made, least-listed}
 use Rattle.language.proofs.Order.Shallow.{Shallow, depth, depth-below, listed-shallow}
 use Rattle.language.proofs.Order.Strict.{before-trans, before-irreflexive}
-use Rattle.language.proofs.Order.Total.{Apart, sound-apart, fits-numbered, before-total}
+use Rattle.language.proofs.Order.Total.{Apart, sound-apart, before-total}
+use Rattle.language.proofs.Fits.{fits-numbered}
 
 -- a rule and children for it
 record Tree : Type 0 where
@@ -90,13 +92,12 @@ module _ (g : Grammar) (X : ℕ) (ws : List Word) (n : ℕ) (bounded : (t : Read
             (found .least (tree-of b) (b, refl));
       }
 
--- how many rules a reading of so many words can have
-abbrev pub Bounded : Type 0
-Bounded = (m : Meaning) → Sound m → (X : ℕ) (ws : List Word) (t : Reads (m .grammar) X ws) → suc (below (t .reading .children)) ≤ 32 * (2 * length ws - 1)
-
--- from that bound: a first reading exists, and is one
-pub first-theorem-from : Bounded → FirstTheorem
-first-theorem-from bounded m sound X ws = record {
-  exists = first-exists (m .grammar) X ws (32 * (2 * length ws - 1)) (bounded m sound X ws) (sound-apart m sound);
+-- a first reading exists, and is one
+pub first-theorem : FirstTheorem
+first-theorem m sound X ws = record {
+  exists = first-exists (m .grammar) X ws (64 * length ws) few (sound-apart m sound);
   unique = λ a b. both-first (m .grammar) X ws (a .reads) (b .reads) (a .least (b .reads)) (b .least (a .reads));
 }
+  where
+    few : (t : Reads (m .grammar) X ws) → suc (below (t .reading .children)) ≤ 64 * length ws
+    few t = omega (arith, few-rules-below m sound (t .reading .by) (t .reading .children) (t .reading .fits) (t .reading .whole), t .is .long)

@@ -13,7 +13,7 @@ use Rattle.language.specs.Words.{Word, Begins, Is}
 use Rattle.language.specs.Readings.{Children, none, key, part, yield, count, Fits}
 use Rattle.language.specs.Moves.{below}
 use Rattle.language.proofs.Words.{is-append, is-front, is-back}
-use Rattle.language.proofs.Order.Total.{fits-numbered}
+use Rattle.language.proofs.Fits.{fits-numbered}
 use Rattle.language.proofs.Order.Listed.{Listed, Below, Made, listed-none, listed-one, listed-same, listed-or, listed-when, listed-below, listed-made}
 
 -- how many rules stand one below the other

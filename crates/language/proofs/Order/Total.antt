@@ -1,5 +1,5 @@
 -- Of two readings one comes first, or they are the same.
-use mathlib.Core.Path.{_≡_, refl, sym, _∙_, ap, ap₂}
+use mathlib.Core.Path.{_≡_, refl, sym, _∙_, ap, ap₂, subst}
 use mathlib.Core.Logic.{_⊎_, inl, inr, ⊎-elim}
 use mathlib.Core.List.{List, [], _∷_}
 use Prim.Native.Nat.{ℕ, suc}
@@ -10,20 +10,15 @@ use Rattle.language.specs.Book.{Grammar, Meaning, Key, Numbered, left, size, s
 use Rattle.language.specs.Sound.{Sound}
 use Rattle.language.specs.Readings.{Children, none, key, part, count, Fits}
 use Rattle.language.specs.Order.{beginnings, Earlier, Inner, Before}
+use Rattle.language.proofs.Fits.{fits-numbered}
+use Rattle.language.proofs.Chart.Fair.{left-apart}
 
 -- no key is the left side of a rule
 abbrev pub Apart : Grammar → Type 0
 Apart g = (c s : ℕ) → Key g c → Numbered g s → c ≡ left g s → ⊥
 
--- in a sound book parts end at 32 and keys begin at 33
 pub sound-apart : (m : Meaning) → Sound m → Apart (m .grammar)
-sound-apart m sound c s k n e = omega (arith, k .low, sound .formed .rules s n .turns .high, sound .formed .counts .few-parts, e)
-
--- children that fit stand under a rule of the book
-pub fits-numbered : (g : Grammar) (r : ℕ) (ks : Children) → Fits g r ks → Numbered g r
-fits-numbered g r none f = f
-fits-numbered g r (key ks c) f = fits-numbered g r ks (f .0)
-fits-numbered g r (part ks s cs) f = fits-numbered g r ks (f .0)
+sound-apart m sound c s k n e = left-apart m sound s n (subst (Key (m .grammar)) e k)
 
 -- two things are the same, or one of them comes first
 abbrev pub Ordered : Type 0 → Type 0 → Type 0 → Type 0
