@@ -1,18 +1,14 @@
 -- The theorem of the chart: what items, lit keys and whole say of programmes and their readings.
 use mathlib.Core.Logic.{_↔_, _⊎_}
 use mathlib.Core.List.{List, [], _∷_, _++_}
-use Prim.Native.Nat.{ℕ, _-_, _≤_}
-use lib.ListN.{length, take, drop}
+use Prim.Native.Nat.{ℕ, _≤_}
+use lib.ListN.{length, take}
 use Rattle.language.specs.Book.{Grammar, Key, Meaning, left}
 use Rattle.language.specs.Closure.{Productive}
 use Rattle.language.specs.Sound.{Sound}
-use Rattle.language.specs.Words.{Word, only}
+use Rattle.language.specs.Words.{Word, only, between}
 use Rattle.language.specs.Readings.{Reading, Done, item, Used, Begun, Programme}
 use Rattle.language.specs.Chart.{Wanted, Held, Whole}
-
--- the words after the first i and up to word k
-abbrev pub between : ℕ → ℕ → List Word → List Word
-between i k ws = take (k - i) (drop i ws)
 
 -- What an item says of its own words: its rule may start there, and its symbols done read the words between.
 pub record Locally (g : Grammar) (ws : List Word) (r d i k : ℕ) : Type 0 where

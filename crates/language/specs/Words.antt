@@ -2,9 +2,9 @@
 use mathlib.Core.Path.{_≡_}
 use mathlib.Core.Bool.{Bool, false}
 use mathlib.Core.List.{List, [], _∷_}
-use Prim.Native.Nat.{ℕ}
+use Prim.Native.Nat.{ℕ, _-_}
 use lib.Dec.{T, eqb}
-use lib.ListN.{length}
+use lib.ListN.{length, take, drop}
 
 -- a word is the set of keys that it matches
 abbrev pub Word : Type 0
@@ -17,6 +17,10 @@ blank c = false
 -- the word that matches the key c alone
 abbrev pub only : ℕ → Word
 only c x = eqb x c
+
+-- the words after the first i and up to word k
+abbrev pub between : ℕ → ℕ → List Word → List Word
+between i k ws = take (k - i) (drop i ws)
 
 -- the list of keys begins with the words: they match its first keys one by one
 abbrev pub Begins : List ℕ → List Word → Type 0

@@ -7,8 +7,7 @@ use lib.Dec.{T}
 use lib.ListN.{length, getD, take, drop, length-take, length-drop}
 use lib.Seq.{take-add, take-length, drop-drop, drop-cons, length-take-le}
 use Rattle.std.proofs.shelf.Lists.{drop-take}
-use Rattle.language.specs.Words.{Word, blank, Begins, Is}
-use Rattle.language.specs.Theorem.{between}
+use Rattle.language.specs.Words.{Word, blank, Begins, Is, between}
 use Rattle.language.proofs.Words.{is-append, begins-back}
 
 module _ (ws : List Word) where

@@ -6,10 +6,9 @@ use native.Mathlib.Omega.{arith}
 use lib.Dec.{T}
 use lib.ListN.{length, getD, length-append}
 use Rattle.language.specs.Book.{Grammar, Numbered, left, size, symbol}
-use Rattle.language.specs.Words.{Word, blank, Begins}
+use Rattle.language.specs.Words.{Word, blank, Begins, between}
 use Rattle.language.specs.Readings.{Children, none, key, part, yield, count, Fits}
 use Rattle.language.specs.Chart.{Corner, self, down, Wanted, first, next, Held, begin, advance, Spans, finished}
-use Rattle.language.specs.Theorem.{between}
 use Rattle.language.proofs.Words.{begins-assoc}
 use Rattle.language.proofs.Chart.Between.{begins-next, begins-match}
 use Rattle.language.proofs.Chart.Fair.{Fair}

@@ -8,10 +8,9 @@ use lib.Dec.{eqb-refl}
 use lib.ListN.{length, take}
 use lib.Seq.{take-length}
 use Rattle.language.specs.Book.{Grammar, Key, left, size, symbol}
-use Rattle.language.specs.Words.{Word, Begins, Is, only}
+use Rattle.language.specs.Words.{Word, Begins, Is, only, between}
 use Rattle.language.specs.Readings.{Children, yield, count, Fits, Reading, Item, item, Uses, Begun, Used, Done}
 use Rattle.language.specs.Chart.{Corner, self, down, Wanted, first, next, Held, begin, advance}
-use Rattle.language.specs.Theorem.{between}
 use Rattle.language.proofs.Words.{begins-append, is-begins}
 use Rattle.language.proofs.Fits.{fits-numbered, fits-count}
 use Rattle.language.proofs.Chart.Between.{length-between, between-none, is-between}

@@ -7,11 +7,10 @@ use native.Mathlib.Omega.{arith}
 use lib.Dec.{T}
 use lib.ListN.{length, getD}
 use Rattle.language.specs.Book.{Grammar, Key, Numbered, left, size, symbol}
-use Rattle.language.specs.Words.{Word, blank, Is}
+use Rattle.language.specs.Words.{Word, blank, Is, between}
 use Rattle.language.specs.Readings.{none, yield, Done, Reads}
 use Rattle.language.specs.Chart.{Wanted, Held, begin, advance, Spans, finished}
 use Rattle.language.specs.Choice.{Covers}
-use Rattle.language.specs.Theorem.{between}
 use Rattle.language.proofs.Words.{is-append, single-is, matched-inside}
 use Rattle.language.proofs.Columns.Bounds.{Within, held-bounds, spans-within}
 use Rattle.language.proofs.Chart.Between.{between-none, between-one, between-join}

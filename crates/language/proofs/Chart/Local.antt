@@ -6,11 +6,11 @@ use Prim.Native.Nat.{ℕ, suc, _+_, _<_, _≤_}
 use native.Mathlib.Omega.{arith}
 use lib.ListN.{length, length-append}
 use Rattle.language.specs.Book.{Grammar, left, size}
-use Rattle.language.specs.Words.{Word, Is}
+use Rattle.language.specs.Words.{Word, Is, between}
 use Rattle.language.specs.Readings.{Children, none, key, part, yield, count, Fits, Done, Reads}
 use Rattle.language.specs.Chart.{Wanted, Held, Spans, finished}
 use Rattle.language.specs.Choice.{Covers}
-use Rattle.language.specs.Theorem.{between, Locally}
+use Rattle.language.specs.Theorem.{Locally}
 use Rattle.language.proofs.Words.{is-begins}
 use Rattle.language.proofs.Chart.Between.{length-between, between-some, begins-match}
 use Rattle.language.proofs.Chart.Complete.{stood-held, children-stood}

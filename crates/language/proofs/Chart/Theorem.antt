@@ -7,10 +7,10 @@ use lib.Dec.{eqb→eq}
 use lib.ListN.{length, getD, take}
 use lib.Seq.{take-length, take-append-seam}
 use Rattle.language.specs.Book.{Grammar, left, size}
-use Rattle.language.specs.Words.{Word, Begins, Is, only}
+use Rattle.language.specs.Words.{Word, Begins, Is, only, between}
 use Rattle.language.specs.Readings.{yield, item, Reads, Used, Begun, Programme}
 use Rattle.language.specs.Chart.{Corner, self, Wanted, first, Held, Whole}
-use Rattle.language.specs.Theorem.{between, ChartIs, ChartTheorem}
+use Rattle.language.specs.Theorem.{ChartIs, ChartTheorem}
 use Rattle.language.proofs.Words.{begins-take}
 use Rattle.language.proofs.Chart.Between.{between-first, between-all}
 use Rattle.language.proofs.Chart.Context.{held-used, wanted-begun}

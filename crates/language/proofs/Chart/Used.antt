@@ -8,10 +8,9 @@ use lib.ListN.{length, getD, length-append}
 use Rattle.std.proofs.shelf.Lists.{getD-append-left, getD-append-add}
 use Rattle.std.proofs.shelf.Tests.{cases-lt}
 use Rattle.language.specs.Book.{Grammar, left, size, symbol}
-use Rattle.language.specs.Words.{Word, Begins}
+use Rattle.language.specs.Words.{Word, Begins, between}
 use Rattle.language.specs.Readings.{Children, none, key, part, yield, count, Fits, Item, reached, Uses}
 use Rattle.language.specs.Chart.{Wanted, Held}
-use Rattle.language.specs.Theorem.{between}
 use Rattle.language.proofs.Words.{begins-assoc}
 use Rattle.language.proofs.Chart.Between.{begins-next}
 use Rattle.language.proofs.Chart.Complete.{stood-wanted, stood-held, children-stood}
@@ -39,7 +38,7 @@ module _ (g : Grammar) (fair : Fair g) (ws : List Word) (k : ℕ) (short : k ≤
       (stood-held g ws r (count ks) i (i + length (yield ks)) (children-stood g fair ws k short r i ks rest w f b (omega (arith, ap (λ t. t .end) e))) some)
 
   -- the symbol behind children may start where they end
-  behind-wanted : (r i X : ℕ) (ks : Children) (rest : List ℕ) → Wanted g ws i (left g r) → Fits g r ks → Begins (yield ks ++ rest) (between i k ws)
+  pub behind-wanted : (r i X : ℕ) (ks : Children) (rest : List ℕ) → Wanted g ws i (left g r) → Fits g r ks → Begins (yield ks ++ rest) (between i k ws)
       → i + length (yield ks) ≤ k → count ks < size g r → symbol g r (count ks) ≡ X → Wanted g ws (i + length (yield ks)) X
   behind-wanted r i X ks rest w f b near l e =
       let j = i + length (yield ks) in
