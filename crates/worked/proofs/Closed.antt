@@ -41,6 +41,10 @@ implied a b h t = ⊎-elim (λ e. absurd (both-ways a (not-true a e) t)) (λ e. 
 unfoldable pub same-item : Item → Item → Bool
 same-item t u = eqb (t .rule) (u .rule) && (eqb (t .done) (u .done) && (eqb (t .start) (u .start) && eqb (t .end) (u .end)))
 
+pub same-self : (t : Item) → same-item t t ≡ true
+unfolding same-item
+same-self t = and-from _ _ (eq-eqb (t .rule) (t .rule) refl) (and-from _ _ (eq-eqb (t .done) (t .done) refl) (and-from _ _ (eq-eqb (t .start) (t .start) refl) (eq-eqb (t .end) (t .end) refl)))
+
 same-equal : (t u : Item) → same-item t u ≡ true → t ≡ u
 unfolding same-item
 same-equal t u h =
@@ -143,6 +147,6 @@ module _ (g : Grammar) (ws : List Word) (ts : List Item) (Ns : List (List ℕ)) 
       wanted-listed _ _ (first Y c) = listed-corner 0 (g .start) Y first-closed c
       wanted-listed _ _ (next r d i k Y h l c) = next-listed r d i k Y l c (held-among r d i k h)
 
-      spans-spanned : (X j k : ℕ) → Spans g ws X j k → spanned g ws ts X j k ≡ true
+      pub spans-spanned : (X j k : ℕ) → Spans g ws X j k → spanned g ws ts X j k ≡ true
       spans-spanned _ _ _ (word c j key t) = word-spanned c j key t
       spans-spanned _ _ _ (finished r j k h) = finished-spanned r j k (held-among r (size g r) j k h)

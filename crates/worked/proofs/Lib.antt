@@ -1,7 +1,10 @@
 pub mod BookA
 pub mod Check
+pub mod Chosen
 pub mod Closed
+pub mod Computed
 pub mod Corners
 pub mod Items
+pub mod Others
 pub mod Shown
 pub mod Sound

@@ -11,21 +11,17 @@ use Rattle.language.specs.Book.{Grammar, Key, Numbered, left, size}
 use Rattle.language.specs.Words.{Word}
 use Rattle.language.specs.Readings.{Item, item}
 use Rattle.language.specs.Machine.{is-key}
-use Rattle.language.specs.Chart.{Whole, Wanted, Held}
+use Rattle.language.specs.Chart.{Whole, Wanted, Held, Spans}
 use Rattle.language.specs.Columns.{AllHeld, Among, Apart}
 use Rattle.language.specs.Drafts.{Items, Lit, LitKeys, Bright}
 use Rattle.worked.proofs.Check.{any, every, any-member, member-any, every-member, has, has-among, among-has}
-use Rattle.worked.proofs.Items.{T-true, true-T, key-test, ended, wants, wants-wanted, derived, derived-held, held-member}
-use Rattle.worked.proofs.Closed.{implies, implied, same-item, listed, closed, corners-listed, closed-next, closed-items, held-among, wanted-listed}
+use Rattle.worked.proofs.Items.{T-true, true-T, key-test, ended, spanned, wants, wants-wanted, derived, derived-held, held-member}
+use Rattle.worked.proofs.Closed.{implies, implied, same-item, same-self, listed, closed, corners-listed, closed-next, closed-items, held-among, wanted-listed, spans-spanned}
 
 -- no item stands twice in the list
 unfoldable pub apart : List Item → Bool
 apart [] = true
 apart (t ∷ ts) = not (any (same-item t) ts) && apart ts
-
-same-self : (t : Item) → same-item t t ≡ true
-unfolding same-item
-same-self t = and-from _ _ (eq-eqb (t .rule) (t .rule) refl) (and-from _ _ (eq-eqb (t .done) (t .done) refl) (and-from _ _ (eq-eqb (t .start) (t .start) refl) (eq-eqb (t .end) (t .end) refl)))
 
 apart-shown : (ts : List Item) → apart ts ≡ true → Apart ts
 unfolding apart
@@ -41,6 +37,10 @@ module _ (g : Grammar) (ws : List Word) (ts : List Item) (Ns : List (List ℕ)) 
 
   unfoldable pub lit : Bool
   lit = every (λ c. is-key g c && wants g ws ts (length ws) c) cs && every (λ Y. implies (is-key g Y) (has Y cs)) (getD Ns (length ws) [])
+
+  -- some finished item of the start part spans all words
+  unfoldable pub whole : Bool
+  whole = any (ended g ws (g .start) 0 (length ws)) ts
 
   module _ (some-symbols : (r : ℕ) → Numbered g r → 1 ≤ size g r) (tested : exact ≡ true) where
     derived-is : derived g ws [] ts ≡ true
@@ -66,8 +66,11 @@ module _ (g : Grammar) (ws : List Word) (ts : List Item) (Ns : List (List ℕ)) 
     unfolding closed
     rest-closed = and-parts (corners-listed g ws ts Ns 0 (g .start)) _ closed-is .1
 
-    among : (r d i k : ℕ) → Held g ws r d i k → Among (item r d i k) ts
+    pub among : (r d i k : ℕ) → Held g ws r d i k → Among (item r d i k) ts
     among = held-among g ws ts Ns some-symbols first-closed (and-parts (every (closed-next g ws ts Ns) ts) _ rest-closed .0) (and-parts (every (closed-next g ws ts Ns) ts) _ rest-closed .1)
+
+    pub spans : (X j k : ℕ) → Spans g ws X j k → spanned g ws ts X j k ≡ true
+    spans = spans-spanned g ws ts Ns some-symbols first-closed (and-parts (every (closed-next g ws ts Ns) ts) _ rest-closed .0) (and-parts (every (closed-next g ws ts Ns) ts) _ rest-closed .1)
 
     is-listed : (k Y : ℕ) → Wanted g ws k Y → listed g ws ts Ns k Y ≡ true
     is-listed = wanted-listed g ws ts Ns some-symbols first-closed (and-parts (every (closed-next g ws ts Ns) ts) _ rest-closed .0) (and-parts (every (closed-next g ws ts Ns) ts) _ rest-closed .1)
@@ -92,10 +95,6 @@ module _ (g : Grammar) (ws : List Word) (ts : List Item) (Ns : List (List ℕ)) 
             let inside = has-among c (getD Ns (length ws) []) (is-listed (length ws) c (l .wanted)) in
             let key-true : is-key g c ≡ true = and-from _ _ (le-leb 33 c (l .key .low)) (le-leb c (32 + g .keys) (l .key .high)) in
             has-among c cs (implied (is-key g c) (has c cs) (every-member (λ Y. implies (is-key g Y) (has Y cs)) (getD Ns (length ws) []) c (parts .1) inside) key-true)
-
-    -- some finished item of the start part spans all words, or none does
-    unfoldable pub whole : Bool
-    whole = any (ended g ws (g .start) 0 (length ws)) ts
 
     pub whole-shown : whole ≡ true → Whole g ws
     unfolding whole ended
