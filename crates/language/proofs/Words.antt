@@ -72,10 +72,6 @@ is-single c (w ∷ v ∷ ws) h = absurd (omega (arith, h .long))
 pub single-is : (c : ℕ) (w : Word) → T (w c) → Is (c ∷ []) (w ∷ [])
 single-is c w h = record { begins = (h, tt); long = refl }
 
-pub is-none : (ws : List Word) → Is [] ws → ws ≡ []
-is-none [] h = refl
-is-none (w ∷ ws) h = absurd (h .begins)
-
 -- a place whose word matches a key is in the words
 pub matched-inside : (ws : List Word) (j c : ℕ) → T (getD ws j blank c) → j < length ws
 matched-inside [] j c h = absurd h

@@ -9,6 +9,7 @@ use Rattle.language.specs.Sound.{Sound}
 use Rattle.language.specs.Words.{Word, only, between}
 use Rattle.language.specs.Readings.{Reading, Done, item, Used, Begun, Programme}
 use Rattle.language.specs.Chart.{Wanted, Held, Whole}
+use Rattle.language.specs.Drafts.{Lit}
 
 -- What an item says of its own words: its rule may start there, and its symbols done read the words between.
 pub record Locally (g : Grammar) (ws : List Word) (r d i k : ℕ) : Type 0 where
@@ -17,12 +18,16 @@ pub record Locally (g : Grammar) (ws : List Word) (r d i k : ℕ) : Type 0 where
   pub some : 1 ≤ d
   pub ends : k ≤ length ws
 
--- an item is held exactly when it ends within the words and some programme that begins with the words up to its end has a
--- reading that uses it
+-- what the chart over the words tells
 pub record ChartIs (g : Grammar) (ws : List Word) : Type 0 where
+  -- an item is held exactly when it ends within the words and some programme that begins with the words up to its end has
+  -- a reading that uses it
   pub items : (r d i k : ℕ) → Held g ws r d i k ↔ ((k ≤ length ws) × Used g (take k ws) (item r d i k))
-  pub lit : (c : ℕ) → Key g c → Wanted g ws (length ws) c ↔ Begun g (ws ++ (only c ∷ []))
+  -- a key is lit exactly when some programme begins with the words followed by that key
+  pub lit : (c : ℕ) → Lit g ws c ↔ Begun g (ws ++ (only c ∷ []))
+  -- a finished item of the start part spans all words exactly when the words are a programme
   pub whole : Whole g ws ↔ Programme g ws
+  -- an item is held exactly when its rule may start there and its symbols done read the words between
   pub spans : (r d i k : ℕ) → Held g ws r d i k ↔ Locally g ws r d i k
 
 -- what can be turned into keys alone is a key or has a reading

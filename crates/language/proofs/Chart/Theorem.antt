@@ -6,12 +6,13 @@ use native.Mathlib.Omega.{arith}
 use lib.Dec.{eqb→eq}
 use lib.ListN.{length, getD, take}
 use lib.Seq.{take-length, take-append-seam}
-use Rattle.language.specs.Book.{Grammar, left, size}
+use Rattle.language.specs.Book.{Grammar, Key, left, size}
 use Rattle.language.specs.Words.{Word, Begins, Is, only, between}
 use Rattle.language.specs.Readings.{yield, item, Reads, Used, Begun, Programme}
 use Rattle.language.specs.Chart.{Corner, self, Wanted, first, Held, Whole}
 use Rattle.language.specs.Theorem.{ChartIs, ChartTheorem}
 use Rattle.language.proofs.Words.{begins-take}
+use Rattle.language.proofs.Fits.{yield-keys}
 use Rattle.language.proofs.Chart.Between.{between-first, between-all}
 use Rattle.language.proofs.Chart.Context.{held-used, wanted-begun}
 use Rattle.language.proofs.Chart.Done.{held-done, done-reads}
@@ -53,6 +54,12 @@ module _ (g : Grammar) (fair : Fair g) (ws : List Word) where
       let w = key-wanted g fair ws n (omega arith) (t .by) 0 (t .children) [] (start-wanted (t .by) (t .heads)) (t .fits) (begins-between p n b) (omega arith) (omega (arith, last .0)) in
       subst (Wanted g ws n) (ap (λ m. getD p m 0) e ∙ last .1) w
 
+  begun-key : (c : ℕ) → Begun g (ws ++ (only c ∷ [])) → Key g c
+  begun-key c h =
+      let t = h .reading in
+      let last = begins-key (yield (t .children)) ws c (h .begins) in
+      subst (Key g) (last .1) (yield-keys g (t .by) (t .children) (t .fits) (length ws) (last .0))
+
   whole-programme : Whole g ws → Programme g ws
   whole-programme h =
       let done = held-done g fair ws (h .by) (size g (h .by)) 0 (length ws) (h .held) in
@@ -71,7 +78,7 @@ module _ (g : Grammar) (fair : Fair g) (ws : List Word) where
   pub chart-is : ChartIs g ws
   chart-is = record {
     items = λ r d i k. ((λ h. (held-bounds g ws (fair .filled) r d i k h .ends, held-used g fair ws r d i k h)), (λ h. used-held r d i k (h .0) (h .1)));
-    lit = λ c h. (wanted-begun g fair ws c h, begun-wanted c);
+    lit = λ c. ((λ h. wanted-begun g fair ws c (h .key) (h .wanted)), (λ h. record { key = begun-key c h; wanted = begun-wanted c h }));
     whole = (whole-programme, programme-whole);
     spans = held-locally g fair ws;
   }
