@@ -6,7 +6,7 @@ use lib.ListN.{length}
 use Rattle.language.specs.Book.{Grammar, Meaning}
 use Rattle.language.specs.Sound.{Sound}
 use Rattle.language.specs.Words.{Word}
-use Rattle.language.specs.Readings.{Children, none, key, part, count, Reading, Reads}
+use Rattle.language.specs.Readings.{Children, none, key, part, count, Reading, Reads, Programme}
 use Rattle.language.specs.Machine.{Complete}
 
 -- what stands behind a child's own moves: the rule's number behind the first child, 129 behind each later one
@@ -44,3 +44,9 @@ pub record MovesAre (g : Grammar) (ws : List Word) (t : Reads g (g .start) ws) :
 
 abbrev pub MovesTheorem : Type 0
 MovesTheorem = (m : Meaning) → Sound m → (ws : List Word) (t : Reads (m .grammar) (m .grammar .start) ws) → MovesAre (m .grammar) ws t
+
+-- and the machine completes no other run: a complete run on the words is the moves of a reading of them
+abbrev pub RunTheorem : Type 0
+RunTheorem =
+    (m : Meaning) → Sound m → (ws : List Word) (ns : List ℕ) → Complete (m .grammar) ws ns
+    → (t : Programme (m .grammar) ws) × (moves (t .reading .by) (t .reading .children) ≡ ns)
