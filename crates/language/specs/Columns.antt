@@ -9,7 +9,7 @@ use lib.ListN.{length, getD, take}
 use Rattle.language.specs.Book.{Rule, Grammar, Key, Numbered, Meaning, left, size, symbol}
 use Rattle.language.specs.Sound.{Sound}
 use Rattle.language.specs.Words.{Word, blank}
-use Rattle.language.specs.Readings.{Item, item}
+use Rattle.language.specs.Readings.{Item}
 use Rattle.language.specs.Chart.{Corner, Wanted, Held}
 
 -- an item lies within the words, and some of its rule's symbols are done

@@ -3,7 +3,6 @@ use mathlib.Core.Path.{refl}
 use mathlib.Core.List.{List, [], _∷_}
 use Prim.Native.Nat.{ℕ}
 use Rattle.language.specs.Sound.{Sound}
-use Rattle.language.specs.Words.{only}
 use Rattle.language.specs.Readings.{none, key, part, Item, item, Programme}
 use Rattle.soundbook.specs.Works.{works}
 use Rattle.worked.specs.Books.{book-a, pressed}

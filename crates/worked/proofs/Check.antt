@@ -1,22 +1,13 @@
--- Tests that compute, for small books and few words, and what they show of the chart.
---
--- A list of items is shown to be exactly the items over the words by two tests: each item of it follows from those before
--- it, and each item that follows from the whole list is in it.
-use mathlib.Core.Path.{_≡_, refl, sym, ap, subst, _∙_}
-use mathlib.Core.Bool.{Bool, true, false, _&&_, _||_, not, cond}
+-- Tests over lists that compute.
+use mathlib.Core.Path.{_≡_, refl, sym, subst}
+use mathlib.Core.Bool.{Bool, true, false, _&&_, _||_}
 use mathlib.Core.Logic.{_⊎_, inl, inr, ⊎-elim}
-use mathlib.Core.List.{List, [], _∷_, _++_}
-use Prim.Native.Nat.{ℕ, zero, suc, _+_, _-_, _<_, _≤_}
+use mathlib.Core.List.{List, [], _∷_}
+use Prim.Native.Nat.{ℕ}
 use native.Mathlib.Omega.{arith}
-use lib.Dec.{T, eqb, leb, ltb}
-use lib.ListN.{length, getD}
-use Rattle.std.proofs.shelf.Tests.{and-parts, and-from, or-cases, or-left, or-right, eqb-true, eq-eqb, leb-true, le-leb, ltb-true, lt-ltb}
-use Rattle.language.specs.Book.{Grammar, Key, Numbered, left, size, symbol}
-use Rattle.language.specs.Words.{Word, blank}
-use Rattle.language.specs.Readings.{Item, item}
-use Rattle.language.specs.Machine.{is-key, is-rule}
-use Rattle.language.specs.Chart.{Corner, Wanted, Held, Spans, self, down, first, next, begin, advance, word, finished}
-use Rattle.language.specs.Columns.{AllHeld, Among, Apart}
+use lib.Dec.{eqb}
+use Rattle.std.proofs.shelf.Tests.{and-parts, or-cases, or-left, or-right, eqb-true}
+use Rattle.language.specs.Columns.{Among}
 
 -- a test holds of some member, or of every member
 module _ {X : Type 0} where
@@ -61,7 +52,3 @@ has X ys = any (λ y. eqb X y) ys
 pub has-among : (X : ℕ) (ys : List ℕ) → has X ys ≡ true → Among X ys
 unfolding has
 has-among X ys h = let m = any-member (λ y. eqb X y) ys h in subst (λ y. Among y ys) (sym (eqb-true X (m .the) (m .has))) (m .among)
-
-pub among-has : (X : ℕ) (ys : List ℕ) → Among X ys → has X ys ≡ true
-unfolding has
-among-has X ys m = member-any (λ y. eqb X y) ys X m (eq-eqb X X refl)

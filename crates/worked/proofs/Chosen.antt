@@ -1,9 +1,9 @@
 -- Tests that compute whether a tree is a reading of the words, and whether it is chosen by the items over them.
-use mathlib.Core.Path.{_≡_, refl, sym, subst}
+use mathlib.Core.Path.{_≡_, refl}
 use mathlib.Core.Bool.{Bool, true, false, _&&_, not}
-use mathlib.Core.Logic.{_⊎_, inl, inr, ⊎-elim}
+use mathlib.Core.Logic.{_⊎_, ⊎-elim}
 use mathlib.Core.List.{List, [], _∷_}
-use Prim.Native.Nat.{ℕ, zero, suc, _+_, _-_, _<_, _≤_}
+use Prim.Native.Nat.{ℕ, zero, suc, _+_, _-_, _<_}
 use native.Mathlib.Omega.{arith}
 use lib.Dec.{eqb, ltb}
 use lib.ListN.{length}
@@ -92,7 +92,10 @@ module _ (g : Grammar) (ws : List Word) (ts : List Item) where
       earliest r (count ks) i (i + length (yield ks)) (i + length (yield (part ks s cs)))
       && (chosen r i ks && (lowest s (i + length (yield ks)) (i + length (yield (part ks s cs))) && chosen s (i + length (yield ks)) cs))
 
-  module _ (bounds : (r d i k : ℕ) → Held g ws r d i k → InBounds g ws r d i k) (among : (r d i k : ℕ) → Held g ws r d i k → Among (item r d i k) ts) (spans : (X j k : ℕ) → Spans g ws X j k → spanned g ws ts X j k ≡ true) where
+  module _
+      (bounds : (r d i k : ℕ) → Held g ws r d i k → InBounds g ws r d i k)
+      (among : (r d i k : ℕ) → Held g ws r d i k → Among (item r d i k) ts)
+      (spans : (X j k : ℕ) → Spans g ws X j k → spanned g ws ts X j k ≡ true) where
     held-listed : (r d i k : ℕ) → Held g ws r d i k → listed-item (item r d i k) ≡ true
     unfolding listed-item
     held-listed r d i k h = member-any (same-item (item r d i k)) ts (item r d i k) (among r d i k h) (same-self (item r d i k))

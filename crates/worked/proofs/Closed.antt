@@ -1,10 +1,11 @@
 -- A list of items that holds whatever follows from it holds every item.
-use mathlib.Core.Path.{_≡_, refl, sym, ap, subst}
-use mathlib.Core.Bool.{Bool, true, false, _&&_, _||_, not}
-use mathlib.Core.Logic.{inl, inr, ⊎-elim}
-use mathlib.Core.List.{List, [], _∷_}
+use mathlib.Core.Path.{_≡_, refl, sym, subst}
+use mathlib.Core.Bool.{Bool, true, _&&_, _||_, not}
+use mathlib.Core.Logic.{⊎-elim}
+use mathlib.Core.List.{List, []}
 use Prim.Native.Nat.{ℕ, zero, suc, _<_, _≤_, _+_}
 use native.Mathlib.Omega.{arith}
+use denote.Floats.{is-true}
 use lib.Dec.{T, eqb, ltb}
 use lib.ListN.{length, getD}
 use Rattle.std.proofs.shelf.Tests.{and-parts, and-from, or-cases, or-left, or-right, eqb-true, eq-eqb, le-leb, lt-ltb, cases-order, not-true, both-ways}
@@ -17,7 +18,7 @@ use Rattle.language.specs.Columns.{InBounds, Among}
 use Rattle.language.proofs.Columns.Bounds.{held-bounds}
 use Rattle.worked.proofs.Check.{any, every, any-member, member-any, every-member, has, has-among}
 use Rattle.worked.proofs.Corners.{corners, cornered, corners-complete}
-use Rattle.worked.proofs.Items.{true-T, ended, spanned, begun, advanced, follows}
+use Rattle.worked.proofs.Items.{ended, spanned, begun, advanced, follows}
 
 -- the test holds of every number below n
 unfoldable pub all-below : (ℕ → Bool) → ℕ → Bool
@@ -99,14 +100,16 @@ module _ (g : Grammar) (ws : List Word) (ts : List Item) (Ns : List (List ℕ)) 
         let m = any-member (same-item (item r d i k)) ts (implied _ _ (in-range r d i k items-closed (held-bounds g ws some-symbols r d i k h)) f) in
         subst (λ t. Among t ts) (sym (same-equal (item r d i k) (m .the) (m .has))) (m .among)
 
-    begun-among : (r i k : ℕ) → Numbered g r → Wanted g ws i (left g r) → Spans g ws (symbol g r 0) i k → listed i (left g r) ≡ true → spanned g ws ts (symbol g r 0) i k ≡ true → Among (item r 1 i k) ts
+    begun-among : (r i k : ℕ) → Numbered g r → Wanted g ws i (left g r) → Spans g ws (symbol g r 0) i k → listed i (left g r) ≡ true
+        → spanned g ws ts (symbol g r 0) i k ≡ true → Among (item r 1 i k) ts
     unfolding follows begun
     begun-among r i k n w s l t =
         followed r 1 i k (begin r i k n w s)
         (or-left (begun g ws listed ts (item r 1 i k)) (any (advanced g ws ts (item r 1 i k)) ts)
         (and-from (is-rule g r) _ (and-from _ _ (le-leb 1 r (n .low)) (le-leb r (length (g .rules)) (n .high))) (and-from (listed i (left g r)) (spanned g ws ts (symbol g r 0) i k) l t)))
 
-    advanced-among : (r d i j k : ℕ) → Held g ws r d i j → d < size g r → Spans g ws (symbol g r d) j k → Among (item r d i j) ts → spanned g ws ts (symbol g r d) j k ≡ true → Among (item r (suc d) i k) ts
+    advanced-among : (r d i j k : ℕ) → Held g ws r d i j → d < size g r → Spans g ws (symbol g r d) j k → Among (item r d i j) ts
+        → spanned g ws ts (symbol g r d) j k ≡ true → Among (item r (suc d) i k) ts
     unfolding follows advanced
     advanced-among r d i j k h l s m t =
         followed r (suc d) i k (advance r d i j k h l s)
@@ -127,7 +130,7 @@ module _ (g : Grammar) (ws : List Word) (ts : List Item) (Ns : List (List ℕ)) 
     word-spanned c j k t =
         or-left (is-key g c && (eqb (suc j) (suc j) && getD ws j blank c)) (any (ended g ws c j (suc j)) ts)
         (and-from (is-key g c) _ (and-from _ _ (le-leb 33 c (k .low)) (le-leb c (32 + g .keys) (k .high)))
-        (and-from (eqb (suc j) (suc j)) (getD ws j blank c) (eq-eqb (suc j) (suc j) refl) (true-T (getD ws j blank c) t)))
+        (and-from (eqb (suc j) (suc j)) (getD ws j blank c) (eq-eqb (suc j) (suc j) refl) (is-true (getD ws j blank c) t)))
 
     finished-spanned : (r j k : ℕ) → Among (item r (size g r) j k) ts → spanned g ws ts (left g r) j k ≡ true
     unfolding spanned ended

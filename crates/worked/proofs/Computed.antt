@@ -1,7 +1,7 @@
 -- From the tests to what the examples say.
-use mathlib.Core.Path.{_≡_, refl, sym, subst}
+use mathlib.Core.Path.{_≡_, refl}
 use mathlib.Core.Bool.{Bool, true, false, _&&_}
-use mathlib.Core.List.{List, [], _∷_}
+use mathlib.Core.List.{List}
 use Prim.Native.Nat.{ℕ, _≤_}
 use native.Mathlib.Nat.{le-refl}
 use lib.ListN.{length}
@@ -10,7 +10,7 @@ use Rattle.language.specs.Book.{Meaning, Numbered, rule, form, size}
 use Rattle.language.specs.Sound.{Sound}
 use Rattle.language.specs.Words.{Word, between}
 use Rattle.language.specs.Readings.{Children, Item, Programme}
-use Rattle.language.specs.Chart.{Corner, first, self}
+use Rattle.language.specs.Chart.{first, self}
 use Rattle.language.specs.Moves.{moves}
 use Rattle.language.proofs.Columns.Bounds.{held-bounds}
 use Rattle.language.proofs.Chart.Theorem.{chart-theorem}
@@ -41,7 +41,8 @@ module _ (m : Meaning) (sound : Sound m) (ws : List Word) (ts : List Item) (Ns :
   unfoldable pub first-test : ℕ → Children → Bool
   first-test r ks = reading (m .grammar) (m .grammar .start) (between 0 (length ws) ws) r ks && (lowest (m .grammar) ws ts r 0 (length ws) && chosen (m .grammar) ws ts r 0 ks)
 
-  pub first-moves : exact (m .grammar) ws ts Ns cs ≡ true → (r : ℕ) (ks : Children) → first-test r ks ≡ true → FirstMoves (m .grammar) (between 0 (length ws) ws) (moves r ks)
+  pub first-moves : exact (m .grammar) ws ts Ns cs ≡ true → (r : ℕ) (ks : Children) → first-test r ks ≡ true
+      → FirstMoves (m .grammar) (between 0 (length ws) ws) (moves r ks)
   unfolding first-test reading-reads
   first-moves e r ks h =
       let g = m .grammar in

@@ -2,16 +2,15 @@
 use mathlib.Core.Path.{_≡_, sym, subst}
 use mathlib.Core.Bool.{Bool, true, _&&_, _||_, not, cond}
 use mathlib.Core.Logic.{inl, inr, ⊎-elim}
-use mathlib.Core.List.{List, [], _∷_, _++_}
-use Prim.Native.Nat.{ℕ, zero, suc, _<_, _≤_}
+use mathlib.Core.List.{List, [], _∷_}
+use Prim.Native.Nat.{ℕ, zero, suc, _≤_}
 use native.Mathlib.Omega.{arith}
 use lib.ListN.{length}
 use Rattle.std.proofs.shelf.Tests.{and-parts, or-cases, cases-bool, cases-order, cond-true, cond-false, not-true, both-ways}
-use Rattle.language.specs.Book.{Grammar, Numbered, left, symbol}
+use Rattle.language.specs.Book.{Grammar, left, symbol}
 use Rattle.language.specs.Chart.{Corner, self, down}
 use Rattle.language.specs.Columns.{Among}
-use Rattle.language.proofs.Pigeonhole.{among-back}
-use Rattle.worked.proofs.Check.{has, has-among, among-has, every, every-member}
+use Rattle.worked.proofs.Check.{has, has-among}
 
 module _ (g : Grammar) where
   -- the list with the first symbol of each of the rules 1 to n whose left side it holds
@@ -46,7 +45,8 @@ module _ (g : Grammar) where
       (λ e. rest Y (subst (Among Y) (cond-false _ (symbol g (suc r) 0 ∷ swept r xs) (swept r xs) e) m))
       (cases-bool (has (left g (suc r)) xs && not (has (symbol g (suc r) 0) xs)))
     where
-      added : (has (left g (suc r)) xs && not (has (symbol g (suc r) 0) xs)) ≡ true → Among Y (symbol g (suc r) 0 ∷ swept r xs) → ((Z : ℕ) → Among Z (swept r xs) → Corner g X Z) → Corner g X Y
+      added : (has (left g (suc r)) xs && not (has (symbol g (suc r) 0) xs)) ≡ true → Among Y (symbol g (suc r) 0 ∷ swept r xs) → ((Z : ℕ) → Among Z (swept r xs) → Corner g X Z)
+          → Corner g X Y
       added e (inl p) rest =
           let under = h (left g (suc r)) (has-among (left g (suc r)) xs (and-parts (has (left g (suc r)) xs) _ e .0)) in
           subst (Corner g X) (sym p) (down (suc r) (record { low = omega arith; high = l }) under)

@@ -1,20 +1,22 @@
--- Items computed: what follows from a list of items in one step, and what is shown by a list that is closed under it.
-use mathlib.Core.Path.{_≡_, refl, sym, ap, subst}
-use mathlib.Core.Bool.{Bool, true, false, _&&_, _||_}
+-- Items computed: what follows from a list of items in one step.
+--
+-- A list is shown to be exactly the items over the words by two tests: each item of it follows from those before it, and
+-- each item that follows from the whole list is in it.
+use mathlib.Core.Path.{_≡_, sym, subst}
+use mathlib.Core.Bool.{Bool, true, _&&_, _||_}
 use mathlib.Core.Logic.{inl, inr, ⊎-elim}
 use mathlib.Core.List.{List, [], _∷_}
-use Prim.Native.Nat.{ℕ, zero, suc, _<_, _≤_, _+_}
-use native.Mathlib.Omega.{arith}
+use Prim.Native.Nat.{ℕ, suc, _+_}
 use lib.Dec.{T, eqb, ltb}
 use lib.ListN.{length, getD}
-use Rattle.std.proofs.shelf.Tests.{and-parts, and-from, or-cases, or-left, or-right, eqb-true, eq-eqb, leb-true, le-leb, ltb-true, lt-ltb}
+use Rattle.std.proofs.shelf.Tests.{and-parts, or-cases, eqb-true, leb-true, ltb-true}
 use Rattle.language.specs.Book.{Grammar, Key, Numbered, left, size, symbol}
 use Rattle.language.specs.Words.{Word, blank}
-use Rattle.language.specs.Readings.{Item, item}
+use Rattle.language.specs.Readings.{Item}
 use Rattle.language.specs.Machine.{is-key, is-rule}
 use Rattle.language.specs.Chart.{Wanted, Held, Spans, first, next, begin, advance, word, finished}
 use Rattle.language.specs.Columns.{AllHeld, Among}
-use Rattle.worked.proofs.Check.{any, Member, any-member, member-any, has}
+use Rattle.worked.proofs.Check.{any, any-member, has}
 use Rattle.worked.proofs.Corners.{corners, corners-sound}
 
 abbrev pub HeldItem : Grammar → List Word → Item → Type 0
@@ -22,10 +24,6 @@ HeldItem g ws t = Held g ws (t .rule) (t .done) (t .start) (t .end)
 
 pub T-true : (b : Bool) → b ≡ true → T b
 T-true b e = subst T (sym e) tt
-
-pub true-T : (b : Bool) → T b → b ≡ true
-true-T true t = refl
-true-T false t = absurd t
 
 pub key-test : (g : Grammar) (c : ℕ) → is-key g c ≡ true → Key g c
 key-test g c h = let p = and-parts _ _ h in record { low = leb-true 33 c (p .0); high = leb-true c (32 + g .keys) (p .1) }

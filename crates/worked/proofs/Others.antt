@@ -1,9 +1,9 @@
 -- The worked examples of presses, of Book B and of the two unsound books.
-use mathlib.Core.Path.{_≡_, refl, sym}
-use mathlib.Core.List.{List, [], _∷_}
-use Prim.Native.Nat.{ℕ, zero, suc, _<_, _≤_}
+use mathlib.Core.Path.{_≡_, refl}
+use mathlib.Core.List.{[], _∷_}
+use Prim.Native.Nat.{ℕ, zero, suc, _<_}
 use native.Mathlib.Omega.{arith}
-use Rattle.language.specs.Book.{Grammar, Part, Numbered, rule, left, size, symbol}
+use Rattle.language.specs.Book.{Part, Numbered, rule, left, size, symbol}
 use Rattle.language.specs.Closure.{Productive, UnitPath}
 use Rattle.language.specs.Sound.{Sound}
 use Rattle.language.specs.Words.{only}

@@ -1,21 +1,21 @@
 -- What the tests show: the items over the words, the lit keys, whether the words are whole, and which words match a lit key.
-use mathlib.Core.Path.{_≡_, refl, sym, ap, subst, _∙_}
+use mathlib.Core.Path.{_≡_, refl, subst}
 use mathlib.Core.Bool.{Bool, true, false, _&&_, not}
-use mathlib.Core.Logic.{inl, inr, ⊎-elim}
 use mathlib.Core.List.{List, [], _∷_}
-use Prim.Native.Nat.{ℕ, zero, suc, _≤_, _+_}
-use lib.Dec.{T, eqb}
+use Prim.Native.Nat.{ℕ, _≤_, _+_}
+use denote.Floats.{is-true}
+use lib.Dec.{eqb}
 use lib.ListN.{length, getD}
 use Rattle.std.proofs.shelf.Tests.{and-parts, and-from, eqb-true, eq-eqb, le-leb, both-ways, not-true}
-use Rattle.language.specs.Book.{Grammar, Key, Numbered, left, size}
+use Rattle.language.specs.Book.{Grammar, Numbered, left, size}
 use Rattle.language.specs.Words.{Word}
 use Rattle.language.specs.Readings.{Item, item}
 use Rattle.language.specs.Machine.{is-key}
 use Rattle.language.specs.Chart.{Whole, Wanted, Held, Spans}
 use Rattle.language.specs.Columns.{AllHeld, Among, Apart}
 use Rattle.language.specs.Drafts.{Items, Lit, LitKeys, Bright}
-use Rattle.worked.proofs.Check.{any, every, any-member, member-any, every-member, has, has-among, among-has}
-use Rattle.worked.proofs.Items.{T-true, true-T, key-test, ended, spanned, wants, wants-wanted, derived, derived-held, held-member}
+use Rattle.worked.proofs.Check.{any, every, any-member, member-any, every-member, has, has-among}
+use Rattle.worked.proofs.Items.{T-true, key-test, ended, spanned, wants, wants-wanted, derived, derived-held, held-member}
 use Rattle.worked.proofs.Closed.{implies, implied, same-item, same-self, listed, closed, corners-listed, closed-next, closed-items, held-among, wanted-listed, spans-spanned}
 
 -- no item stands twice in the list
@@ -118,7 +118,7 @@ module _ (g : Grammar) (ws : List Word) (ts : List Item) (Ns : List (List ℕ)) 
 
 -- a word that matches none of the lit keys
 pub not-bright : (g : Grammar) (ws : List Word) (w : Word) (cs : List ℕ) → LitKeys g ws cs → every (λ c. not (w c)) cs ≡ true → Bright g ws w → ⊥
-not-bright g ws w cs l h b = both-ways (w (b .key)) (not-true _ (every-member (λ c. not (w c)) cs (b .key) h (l (b .key) .1 (b .lit)))) (true-T _ (b .matches))
+not-bright g ws w cs l h b = both-ways (w (b .key)) (not-true _ (every-member (λ c. not (w c)) cs (b .key) h (l (b .key) .1 (b .lit)))) (is-true _ (b .matches))
 
 -- a word that matches the lit key c
 pub bright : (g : Grammar) (ws : List Word) (w : Word) (cs : List ℕ) (c : ℕ) → LitKeys g ws cs → has c cs ≡ true → w c ≡ true → Bright g ws w

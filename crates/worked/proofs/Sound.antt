@@ -1,6 +1,6 @@
 -- Tests that compute whether a small book is sound, and what they show.
-use mathlib.Core.Path.{_≡_, refl, sym, ap, subst}
-use mathlib.Core.Bool.{Bool, true, false, _&&_, _||_, not, cond}
+use mathlib.Core.Path.{_≡_, sym, subst}
+use mathlib.Core.Bool.{Bool, true, _&&_, _||_, not, cond}
 use mathlib.Core.Logic.{_⊎_, inl, inr, ⊎-elim}
 use mathlib.Core.List.{List, [], _∷_}
 use Prim.Native.Nat.{ℕ, zero, suc, _+_, _-_, _<_, _≤_}
@@ -13,7 +13,7 @@ use Rattle.language.specs.Sound.{CountsFit, RuleFits, Letter, Lettered, FormFit
 use Rattle.language.specs.Closure.{Productive, UnitPath}
 use Rattle.language.specs.Machine.{is-key}
 use Rattle.language.specs.Columns.{Among}
-use Rattle.worked.proofs.Check.{every, has, has-among, among-has}
+use Rattle.worked.proofs.Check.{every, has, has-among}
 use Rattle.worked.proofs.Items.{key-test}
 use Rattle.worked.proofs.Closed.{all-below, below-at, implies, implied}
 
@@ -150,7 +150,8 @@ module _ (g : Grammar) where
   productives zero = []
   productives (suc n) = produced (length (g .rules)) (productives n)
 
-  turned-productive : (xs symbols : List ℕ) → ((X : ℕ) → Among X xs → Productive g X) → turned xs symbols ≡ true → (d : ℕ) → d < length symbols → Productive g (getD symbols d 0)
+  turned-productive : (xs symbols : List ℕ) → ((X : ℕ) → Among X xs → Productive g X) → turned xs symbols ≡ true → (d : ℕ) → d < length symbols
+      → Productive g (getD symbols d 0)
   unfolding turned
   turned-productive xs symbols p h d l = ⊎-elim
       (λ e. Productive.key (getD symbols d 0) (key-test g (getD symbols d 0) e))
@@ -167,7 +168,8 @@ module _ (g : Grammar) where
       (λ e. before X (subst (Among X) (cond-false _ (left g (suc r) ∷ produced r xs) (produced r xs) e) m))
       (cases-bool (turned (produced r xs) (right g (suc r))))
     where
-      added : ((Y : ℕ) → Among Y (produced r xs) → Productive g Y) → turned (produced r xs) (right g (suc r)) ≡ true → Among X (left g (suc r) ∷ produced r xs) → Productive g X
+      added : ((Y : ℕ) → Among Y (produced r xs) → Productive g Y) → turned (produced r xs) (right g (suc r)) ≡ true
+          → Among X (left g (suc r) ∷ produced r xs) → Productive g X
       added before e (inl same) = subst (Productive g) (sym same) (Productive.part (suc r) (record { low = omega arith; high = l }) (turned-productive (produced r xs) (right g (suc r)) before e))
       added before e (inr m) = before X m
 
@@ -193,7 +195,8 @@ module _ (g : Grammar) where
   unit-closed X xs zero = true
   unit-closed X xs (suc r) = implies (eqb (size g (suc r)) 1 && (eqb (left g (suc r)) X || has (left g (suc r)) xs)) (has (symbol g (suc r) 0) xs) && unit-closed X xs r
 
-  unit-rule : (X : ℕ) (xs : List ℕ) (n r : ℕ) → unit-closed X xs n ≡ true → 1 ≤ r → r ≤ n → (eqb (size g r) 1 && (eqb (left g r) X || has (left g r) xs)) ≡ true → has (symbol g r 0) xs ≡ true
+  unit-rule : (X : ℕ) (xs : List ℕ) (n r : ℕ) → unit-closed X xs n ≡ true → 1 ≤ r → r ≤ n
+      → (eqb (size g r) 1 && (eqb (left g r) X || has (left g r) xs)) ≡ true → has (symbol g r 0) xs ≡ true
   unfolding unit-closed
   unit-rule X xs zero r h l u f = absurd (omega arith)
   unit-rule X xs (suc n) r h l u f =

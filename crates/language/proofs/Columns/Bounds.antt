@@ -1,11 +1,10 @@
 -- Items lie within the words, and depend on the words up to their end alone.
-use mathlib.Core.List.{List, [], _∷_}
-use Prim.Native.Nat.{ℕ, zero, suc, _<_, _≤_}
+use mathlib.Core.List.{List}
+use Prim.Native.Nat.{ℕ, suc, _<_, _≤_}
 use native.Mathlib.Omega.{arith}
-use lib.Dec.{T}
-use lib.ListN.{length, getD}
+use lib.ListN.{length}
 use Rattle.language.specs.Book.{Grammar, Numbered, size}
-use Rattle.language.specs.Words.{Word, blank}
+use Rattle.language.specs.Words.{Word}
 use Rattle.language.specs.Chart.{Held, Spans, begin, advance, word, finished}
 use Rattle.language.specs.Columns.{InBounds}
 use Rattle.language.proofs.Words.{matched-inside}

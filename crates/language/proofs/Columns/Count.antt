@@ -26,7 +26,8 @@ unfolding dots
 dots-length f q [] = refl
 dots-length f q (w ∷ rs) = simp length-append (omega (arith, upto-length (f q) (length (w .body)), dots-length f (suc q) rs))
 
-dots-among : (f : ℕ → ℕ → Item) (q : ℕ) (rs : List Rule) (j r d : ℕ) → q + j ≡ r → j < length rs → 1 ≤ d → d ≤ length (getD rs j norule .body) → Among (f r d) (dots f q rs)
+dots-among : (f : ℕ → ℕ → Item) (q : ℕ) (rs : List Rule) (j r d : ℕ) → q + j ≡ r → j < length rs → 1 ≤ d → d ≤ length (getD rs j norule .body)
+    → Among (f r d) (dots f q rs)
 unfolding dots
 dots-among f q [] j r d e h l u = absurd (omega arith)
 dots-among f q (w ∷ rs) zero r d e h l u =

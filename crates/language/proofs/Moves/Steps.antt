@@ -1,10 +1,11 @@
 -- Single moves of the machine on the stacks of a rule that is partly done, and moves one after the other.
 use mathlib.Core.Path.{_≡_, refl, sym, ap, _∙_}
-use mathlib.Core.Bool.{Bool, true, false}
+use mathlib.Core.Bool.{true}
 use mathlib.Core.List.{List, [], _∷_, _++_, map}
 use mathlib.Core.Option.{Option, some, none}
 use Prim.Native.Nat.{ℕ, zero, suc, _≤_, _<_}
 use native.Mathlib.Omega.{arith}
+use denote.Floats.{is-true}
 use lib.Dec.{T, eqb}
 use lib.ListN.{length, drop}
 use lib.Seq.{drop-cons}
@@ -22,11 +23,7 @@ steps-append g s (n ∷ p) q = steps-append g (after g s n) p q
 
 -- a word that matches a key agrees with it
 pub word-agrees : (g : Grammar) (w : Word) (c : ℕ) → Key g c → T (w c) → agrees g (word w) c ≡ true
-word-agrees g w c k h = and-from _ (w c) (and-from _ _ (le-leb 33 c (k .low)) (le-leb c _ (k .high))) (passed (w c) h)
-  where
-    passed : (b : Bool) → T b → b ≡ true
-    passed true t = refl
-    passed false t = absurd t
+word-agrees g w c k h = and-from _ (w c) (and-from _ _ (le-leb 33 c (k .low)) (le-leb c _ (k .high))) (is-true (w c) h)
 
 -- a part that is done agrees with itself
 pub done-agrees : (g : Grammar) (X c : ℕ) → c ≡ X → agrees g (done X) c ≡ true

@@ -6,8 +6,7 @@ use Prim.Native.Nat.{ℕ, suc, _<_, _*_, _-_, _≤_}
 use native.Mathlib.Decide.{ℕ-discrete}
 use native.Mathlib.Omega.{arith}
 use lib.ListN.{length}
-use Rattle.language.specs.Book.{Grammar, Meaning, left, size}
-use Rattle.language.specs.Sound.{Sound}
+use Rattle.language.specs.Book.{Grammar, left, size}
 use Rattle.language.specs.Words.{Word}
 use Rattle.language.specs.Readings.{Children, Reads}
 use Rattle.language.specs.Moves.{below}
