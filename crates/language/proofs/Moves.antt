@@ -1,3 +1,5 @@
+pub mod Allowed
+pub mod Back
 pub mod Many
 pub mod Rules
 pub mod Run
