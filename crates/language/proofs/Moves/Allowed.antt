@@ -5,8 +5,8 @@ use mathlib.Core.List.{List, [], _∷_, _++_, map}
 use mathlib.Core.Option.{Option, some, none}
 use Prim.Native.Nat.{ℕ}
 use native.Mathlib.Omega.{arith}
-use lib.Dec.{eqb, leb}
-use lib.ListN.{length, drop}
+use lib.Dec.{eqb}
+use lib.ListN.{drop}
 use Rattle.std.proofs.shelf.Tests.{cond-both, and-parts, leb-true, eqb-true}
 use Rattle.language.specs.Book.{Grammar, Numbered, left, right, symbol}
 use Rattle.language.specs.Machine.{Entry, Awaited, next, end, State, stacks, is-rule, agrees, reduce, move, remove, step, steps}
@@ -14,13 +14,14 @@ use Rattle.language.specs.Machine.{Entry, Awaited, next, end, State, stacks, i
 cons-apart : {A : Type 0} (x : A) (xs : List A) → x ∷ xs ≡ [] → ⊥
 cons-apart x xs e = let z : _≡_ {A = ℕ} 0 1 = cc in omega arith
 
--- no symbol to come meets an entry of the first stack
+-- the tops of the first and second stack are not an entry and a symbol to come
 abbrev pub Apart : List Entry → List Awaited → Type 0
 Apart [] bs = Unit {0}
 Apart (e ∷ es) [] = Unit {0}
 Apart (e ∷ es) (end ∷ bs) = Unit {0}
 Apart (e ∷ es) (next B ∷ bs) = ⊥
 
+-- so with an end mark on top, or with nothing to come
 pub end-apart : (es : List Entry) (bs : List Awaited) → Apart es (end ∷ bs)
 end-apart [] bs = tt
 end-apart (e ∷ es) bs = tt
@@ -30,10 +31,11 @@ empty-apart [] = tt
 empty-apart (e ∷ es) = tt
 
 module _ (g : Grammar) where
-  -- from there the moves empty the stacks
+  -- the moves lead to empty stacks, from where earlier moves led
   abbrev Empties : Option State → List ℕ → Type 0
   Empties s ns = steps g s ns ≡ some (stacks [] [] [])
 
+  -- or from a state
   abbrev pub Ends : State → List ℕ → Type 0
   Ends s ns = Empties (some s) ns
 
@@ -44,7 +46,7 @@ module _ (g : Grammar) where
   pub some-second : (es : List Entry) (b : Awaited) (bs : List Awaited) (ls : List ℕ) → Ends (stacks es (b ∷ bs) ls) [] → ⊥
   some-second es b bs ls h = let s : stacks es (b ∷ bs) ls ≡ stacks [] [] [] = cc in cons-apart b bs (ap (λ t. t .second) s)
 
-  -- from a refused move none leads on
+  -- no moves lead on from a refused move
   pub refused : (ns : List ℕ) → Empties none ns → ⊥
   refused [] h = let z : _≡_ {A = ℕ} 0 1 = cc in omega arith
   refused (n ∷ ns) h = refused ns h
@@ -60,7 +62,7 @@ module _ (g : Grammar) where
       cond-both (eqb n 129) _ _ P (λ e. removed (eqb-true n 129 e)) λ e.
       cond-both (is-rule g n) _ _ P (λ e. reduced (rule-test n e)) λ e. no-step
 
-  -- while no symbol to come meets an entry, nothing is reduced or removed
+  -- then nothing is reduced or removed
   apart-refused : (n : ℕ) (es : List Entry) (bs : List Awaited) (ls : List ℕ) → Apart es bs → (none ≡ remove g es bs ls) × (none ≡ reduce g n es bs ls)
   apart-refused n [] bs ls a = (refl, refl)
   apart-refused n (e ∷ es) [] ls a = (refl, refl)
