@@ -1,3 +1,6 @@
+pub mod Allowed
+pub mod Back
+pub mod Frames
 pub mod Many
 pub mod Rules
 pub mod Run

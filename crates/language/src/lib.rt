@@ -3,7 +3,7 @@
 ghost use Rattle.language.specs.Choice.{ChoiceTheorem, ItemsTheorem};
 ghost use Rattle.language.specs.Columns.{ColumnsTheorem};
 ghost use Rattle.language.specs.Corners.{CornersTheorem};
-ghost use Rattle.language.specs.Moves.{MovesTheorem};
+ghost use Rattle.language.specs.Moves.{MovesTheorem, RunTheorem};
 ghost use Rattle.language.specs.Order.{FirstTheorem};
 ghost use Rattle.language.specs.Theorem.{ChartTheorem, TurnedTheorem};
 
@@ -40,6 +40,11 @@ pub fn items_theorem()
 // The moves of a reading are a complete run of the machine, and there are few of them.
 pub fn moves_theorem()
     ensures { λ _. ⌜ MovesTheorem ⌝ }
+{}
+
+// A complete run of the machine is the moves of a reading.
+pub fn run_theorem()
+    ensures { λ _. ⌜ RunTheorem ⌝ }
 {}
 
 // What can be turned into keys alone is a key or has a reading.
