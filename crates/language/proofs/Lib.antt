@@ -6,5 +6,6 @@ pub mod Masks
 pub mod Moves
 pub mod Order
 pub mod Pigeonhole
+pub mod Tests
 pub mod Told
 pub mod Words

@@ -16,7 +16,8 @@ use Rattle.language.specs.Chart.{Held, Spans}
 use Rattle.language.specs.Columns.{InBounds, Among}
 use Rattle.language.specs.Choice.{LowestHeld, EarliestHeld, ChosenHeld}
 use Rattle.worked.proofs.Check.{any, member-any}
-use Rattle.worked.proofs.Items.{T-true, key-test, rule-test, spanned}
+use Rattle.language.proofs.Tests.{key-test, rule-test}
+use Rattle.worked.proofs.Items.{T-true, spanned}
 use Rattle.worked.proofs.Closed.{all-below, below-at, same-item, same-self}
 
 -- the children stand in order under rule r

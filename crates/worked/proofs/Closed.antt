@@ -3,12 +3,12 @@ use mathlib.Core.Path.{_≡_, refl, sym, subst}
 use mathlib.Core.Bool.{Bool, true, _&&_, _||_, not}
 use mathlib.Core.Logic.{⊎-elim}
 use mathlib.Core.List.{List, []}
-use Prim.Native.Nat.{ℕ, zero, suc, _<_, _≤_, _+_}
+use Prim.Native.Nat.{ℕ, zero, suc, _<_, _≤_}
 use native.Mathlib.Omega.{arith}
 use denote.Floats.{is-true}
 use lib.Dec.{T, eqb, ltb}
 use lib.ListN.{length, getD}
-use Rattle.std.proofs.shelf.Tests.{and-parts, and-from, or-cases, or-left, or-right, eqb-true, eq-eqb, le-leb, lt-ltb, cases-order, not-true, both-ways}
+use Rattle.std.proofs.shelf.Tests.{and-parts, and-from, or-cases, or-left, or-right, eqb-true, eq-eqb, lt-ltb, cases-order, not-true, both-ways}
 use Rattle.language.specs.Book.{Grammar, Key, Numbered, left, size, symbol}
 use Rattle.language.specs.Words.{Word, blank}
 use Rattle.language.specs.Readings.{Item, item}
@@ -16,6 +16,7 @@ use Rattle.language.specs.Machine.{is-key, is-rule}
 use Rattle.language.specs.Chart.{Corner, Wanted, Held, Spans, first, next, begin, advance, word, finished}
 use Rattle.language.specs.Columns.{InBounds, Among}
 use Rattle.language.proofs.Columns.Bounds.{held-bounds}
+use Rattle.language.proofs.Tests.{test-key, test-rule}
 use Rattle.worked.proofs.Check.{any, every, any-member, member-any, every-member, has, has-among}
 use Rattle.worked.proofs.Corners.{corners, cornered, corners-complete}
 use Rattle.worked.proofs.Items.{ended, spanned, begun, advanced, follows}
@@ -106,7 +107,7 @@ module _ (g : Grammar) (ws : List Word) (ts : List Item) (Ns : List (List ℕ)) 
     begun-among r i k n w s l t =
         followed r 1 i k (begin r i k n w s)
         (or-left (begun g ws listed ts (item r 1 i k)) (any (advanced g ws ts (item r 1 i k)) ts)
-        (and-from (is-rule g r) _ (and-from _ _ (le-leb 1 r (n .low)) (le-leb r (length (g .rules)) (n .high))) (and-from (listed i (left g r)) (spanned g ws ts (symbol g r 0) i k) l t)))
+        (and-from (is-rule g r) _ (test-rule g r n) (and-from (listed i (left g r)) (spanned g ws ts (symbol g r 0) i k) l t)))
 
     advanced-among : (r d i j k : ℕ) → Held g ws r d i j → d < size g r → Spans g ws (symbol g r d) j k → Among (item r d i j) ts
         → spanned g ws ts (symbol g r d) j k ≡ true → Among (item r (suc d) i k) ts
@@ -129,7 +130,7 @@ module _ (g : Grammar) (ws : List Word) (ts : List Item) (Ns : List (List ℕ)) 
     unfolding spanned
     word-spanned c j k t =
         or-left (is-key g c && (eqb (suc j) (suc j) && getD ws j blank c)) (any (ended g ws c j (suc j)) ts)
-        (and-from (is-key g c) _ (and-from _ _ (le-leb 33 c (k .low)) (le-leb c (32 + g .keys) (k .high)))
+        (and-from (is-key g c) _ (test-key g c k)
         (and-from (eqb (suc j) (suc j)) (getD ws j blank c) (eq-eqb (suc j) (suc j) refl) (is-true (getD ws j blank c) t)))
 
     finished-spanned : (r j k : ℕ) → Among (item r (size g r) j k) ts → spanned g ws ts (left g r) j k ≡ true

@@ -6,16 +6,17 @@ use mathlib.Core.Path.{_≡_, sym, subst}
 use mathlib.Core.Bool.{Bool, true, _&&_, _||_}
 use mathlib.Core.Logic.{inl, inr, ⊎-elim}
 use mathlib.Core.List.{List, [], _∷_}
-use Prim.Native.Nat.{ℕ, suc, _+_}
+use Prim.Native.Nat.{ℕ, suc}
 use lib.Dec.{T, eqb, ltb}
-use lib.ListN.{length, getD}
-use Rattle.std.proofs.shelf.Tests.{and-parts, or-cases, eqb-true, leb-true, ltb-true}
-use Rattle.language.specs.Book.{Grammar, Key, Numbered, left, size, symbol}
+use lib.ListN.{getD}
+use Rattle.std.proofs.shelf.Tests.{and-parts, or-cases, eqb-true, ltb-true}
+use Rattle.language.specs.Book.{Grammar, left, size, symbol}
 use Rattle.language.specs.Words.{Word, blank}
 use Rattle.language.specs.Readings.{Item}
 use Rattle.language.specs.Machine.{is-key, is-rule}
 use Rattle.language.specs.Chart.{Wanted, Held, Spans, first, next, begin, advance, word, finished}
 use Rattle.language.specs.Columns.{AllHeld, Among}
+use Rattle.language.proofs.Tests.{key-test, rule-test}
 use Rattle.worked.proofs.Check.{any, any-member, has}
 use Rattle.worked.proofs.Corners.{corners, corners-sound}
 
@@ -24,12 +25,6 @@ HeldItem g ws t = Held g ws (t .rule) (t .done) (t .start) (t .end)
 
 pub T-true : (b : Bool) → b ≡ true → T b
 T-true b e = subst T (sym e) tt
-
-pub key-test : (g : Grammar) (c : ℕ) → is-key g c ≡ true → Key g c
-key-test g c h = let p = and-parts _ _ h in record { low = leb-true 33 c (p .0); high = leb-true c (32 + g .keys) (p .1) }
-
-pub rule-test : (g : Grammar) (r : ℕ) → is-rule g r ≡ true → Numbered g r
-rule-test g r h = let p = and-parts _ _ h in record { low = leb-true 1 r (p .0); high = leb-true r (length (g .rules)) (p .1) }
 
 module _ (g : Grammar) (ws : List Word) where
   -- u is a finished item of X from after word j to word k

@@ -2,11 +2,11 @@
 use mathlib.Core.Path.{_≡_, refl, subst}
 use mathlib.Core.Bool.{Bool, true, false, _&&_, not}
 use mathlib.Core.List.{List, [], _∷_}
-use Prim.Native.Nat.{ℕ, _≤_, _+_}
+use Prim.Native.Nat.{ℕ, _≤_}
 use denote.Floats.{is-true}
 use lib.Dec.{eqb}
 use lib.ListN.{length, getD}
-use Rattle.std.proofs.shelf.Tests.{and-parts, and-from, eqb-true, eq-eqb, le-leb, both-ways, not-true}
+use Rattle.std.proofs.shelf.Tests.{and-parts, and-from, eqb-true, eq-eqb, both-ways, not-true}
 use Rattle.language.specs.Book.{Grammar, Numbered, left, size}
 use Rattle.language.specs.Words.{Word}
 use Rattle.language.specs.Readings.{Item, item}
@@ -15,7 +15,8 @@ use Rattle.language.specs.Chart.{Whole, Wanted, Held, Spans}
 use Rattle.language.specs.Columns.{AllHeld, Among, Apart}
 use Rattle.language.specs.Drafts.{Items, Lit, LitKeys, Bright}
 use Rattle.worked.proofs.Check.{any, every, any-member, member-any, every-member, has, has-among}
-use Rattle.worked.proofs.Items.{T-true, key-test, ended, spanned, wants, wants-wanted, derived, derived-held, held-member}
+use Rattle.language.proofs.Tests.{key-test, test-key}
+use Rattle.worked.proofs.Items.{T-true, ended, spanned, wants, wants-wanted, derived, derived-held, held-member}
 use Rattle.worked.proofs.Closed.{implies, implied, same-item, same-self, listed, closed, corners-listed, closed-next, closed-items, held-among, wanted-listed, spans-spanned}
 
 -- no item stands twice in the list
@@ -93,8 +94,7 @@ module _ (g : Grammar) (ws : List Word) (ts : List Item) (Ns : List (List ℕ)) 
         back : Lit g ws c → Among c cs
         back l =
             let inside = has-among c (getD Ns (length ws) []) (is-listed (length ws) c (l .wanted)) in
-            let key-true : is-key g c ≡ true = and-from _ _ (le-leb 33 c (l .key .low)) (le-leb c (32 + g .keys) (l .key .high)) in
-            has-among c cs (implied (is-key g c) (has c cs) (every-member (λ Y. implies (is-key g Y) (has Y cs)) (getD Ns (length ws) []) c (parts .1) inside) key-true)
+            has-among c cs (implied (is-key g c) (has c cs) (every-member (λ Y. implies (is-key g Y) (has Y cs)) (getD Ns (length ws) []) c (parts .1) inside) (test-key g c (l .key)))
 
     pub whole-shown : whole ≡ true → Whole g ws
     unfolding whole ended

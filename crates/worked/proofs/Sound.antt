@@ -14,7 +14,7 @@ use Rattle.language.specs.Closure.{Productive, UnitPath}
 use Rattle.language.specs.Machine.{is-key}
 use Rattle.language.specs.Columns.{Among}
 use Rattle.worked.proofs.Check.{every, has, has-among}
-use Rattle.worked.proofs.Items.{key-test}
+use Rattle.language.proofs.Tests.{key-test}
 use Rattle.worked.proofs.Closed.{all-below, below-at, implies, implied}
 
 unfoldable pub is-part : Grammar → ℕ → Bool

@@ -7,28 +7,29 @@ use Prim.Native.Nat.{ℕ}
 use native.Mathlib.Omega.{arith}
 use lib.Dec.{eqb}
 use lib.ListN.{drop}
-use Rattle.std.proofs.shelf.Tests.{cond-both, and-parts, leb-true, eqb-true}
+use Rattle.std.proofs.shelf.Tests.{cond-both, eqb-true}
 use Rattle.language.specs.Book.{Grammar, Numbered, left, right, symbol}
+use Rattle.language.proofs.Tests.{rule-test}
 use Rattle.language.specs.Machine.{Entry, Awaited, next, end, State, stacks, is-rule, agrees, reduce, move, remove, step, steps}
 
 cons-apart : {A : Type 0} (x : A) (xs : List A) → x ∷ xs ≡ [] → ⊥
 cons-apart x xs e = let z : _≡_ {A = ℕ} 0 1 = cc in omega arith
 
 -- the tops of the first and second stack are not an entry and a symbol to come
-abbrev pub Apart : List Entry → List Awaited → Type 0
-Apart [] bs = Unit {0}
-Apart (e ∷ es) [] = Unit {0}
-Apart (e ∷ es) (end ∷ bs) = Unit {0}
-Apart (e ∷ es) (next B ∷ bs) = ⊥
+abbrev pub Blocked : List Entry → List Awaited → Type 0
+Blocked [] bs = Unit {0}
+Blocked (e ∷ es) [] = Unit {0}
+Blocked (e ∷ es) (end ∷ bs) = Unit {0}
+Blocked (e ∷ es) (next B ∷ bs) = ⊥
 
 -- so with an end mark on top, or with nothing to come
-pub end-apart : (es : List Entry) (bs : List Awaited) → Apart es (end ∷ bs)
-end-apart [] bs = tt
-end-apart (e ∷ es) bs = tt
+pub end-blocked : (es : List Entry) (bs : List Awaited) → Blocked es (end ∷ bs)
+end-blocked [] bs = tt
+end-blocked (e ∷ es) bs = tt
 
-pub empty-apart : (es : List Entry) → Apart es []
-empty-apart [] = tt
-empty-apart (e ∷ es) = tt
+pub empty-blocked : (es : List Entry) → Blocked es []
+empty-blocked [] = tt
+empty-blocked (e ∷ es) = tt
 
 module _ (g : Grammar) where
   -- the moves lead to empty stacks, from where earlier moves led
@@ -51,31 +52,28 @@ module _ (g : Grammar) where
   refused [] h = let z : _≡_ {A = ℕ} 0 1 = cc in omega arith
   refused (n ∷ ns) h = refused ns h
 
-  rule-test : (n : ℕ) → is-rule g n ≡ true → Numbered g n
-  rule-test n h = let p = and-parts _ _ h in record { low = leb-true 1 n (p .0); high = leb-true n _ (p .1) }
-
   -- a step is a move, a removal or a reduction by a rule, or refused
   step-cases : (s : State) (n : ℕ) (P : Option State → Type 0) → (n ≡ 0 → P (move (s .first) (s .second) (s .third)))
       → (n ≡ 129 → P (remove g (s .first) (s .second) (s .third))) → (Numbered g n → P (reduce g n (s .first) (s .second) (s .third))) → P none → P (step g s n)
   step-cases s n P moved removed reduced no-step =
       cond-both (eqb n 0) _ _ P (λ e. moved (eqb-true n 0 e)) λ e.
       cond-both (eqb n 129) _ _ P (λ e. removed (eqb-true n 129 e)) λ e.
-      cond-both (is-rule g n) _ _ P (λ e. reduced (rule-test n e)) λ e. no-step
+      cond-both (is-rule g n) _ _ P (λ e. reduced (rule-test g n e)) λ e. no-step
 
   -- then nothing is reduced or removed
-  apart-refused : (n : ℕ) (es : List Entry) (bs : List Awaited) (ls : List ℕ) → Apart es bs → (none ≡ remove g es bs ls) × (none ≡ reduce g n es bs ls)
-  apart-refused n [] bs ls a = (refl, refl)
-  apart-refused n (e ∷ es) [] ls a = (refl, refl)
-  apart-refused n (e ∷ es) (end ∷ bs) ls a = (refl, refl)
-  apart-refused n (e ∷ es) (next B ∷ bs) ls a = absurd a
+  blocked-refused : (n : ℕ) (es : List Entry) (bs : List Awaited) (ls : List ℕ) → Blocked es bs → (none ≡ remove g es bs ls) × (none ≡ reduce g n es bs ls)
+  blocked-refused n [] bs ls a = (refl, refl)
+  blocked-refused n (e ∷ es) [] ls a = (refl, refl)
+  blocked-refused n (e ∷ es) (end ∷ bs) ls a = (refl, refl)
+  blocked-refused n (e ∷ es) (next B ∷ bs) ls a = absurd a
 
   -- so only move 0 is allowed
-  pub only-move : (es : List Entry) (bs : List Awaited) (ls : List ℕ) (n : ℕ) (q : List ℕ) → Apart es bs → Ends (stacks es bs ls) (n ∷ q)
+  pub only-move : (es : List Entry) (bs : List Awaited) (ls : List ℕ) (n : ℕ) (q : List ℕ) → Blocked es bs → Ends (stacks es bs ls) (n ∷ q)
       → (n ≡ 0) × Empties (move es bs ls) q
   only-move es bs ls n q a =
       let P : Option State → Type 0 = λ s. Empties s q → (n ≡ 0) × Empties (move es bs ls) q in
       let none-left : P none = λ h. absurd (refused q h) in
-      let e = apart-refused n es bs ls a in
+      let e = blocked-refused n es bs ls a in
       step-cases (stacks es bs ls) n P (λ z h. (z, h)) (λ z. subst P (e .0) none-left) (λ z. subst P (e .1) none-left) none-left
 
   -- an entry and a symbol to come on top: the entry is removed with the symbol, or begins a rule

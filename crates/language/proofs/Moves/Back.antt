@@ -20,7 +20,7 @@ use Rattle.language.specs.Moves.{inner, moves, RunTheorem}
 use Rattle.language.proofs.Fits.{fits-count}
 use Rattle.language.proofs.Chart.Turned.{Tree, leaves, push, push-count}
 use Rattle.language.proofs.Chart.Fair.{Fair, sound-fair}
-use Rattle.language.proofs.Moves.Allowed.{Ends, refused, some-first, some-second, end-apart, empty-apart, only-move, take-cases}
+use Rattle.language.proofs.Moves.Allowed.{Ends, refused, some-first, some-second, end-blocked, empty-blocked, only-move, take-cases}
 use Rattle.language.proofs.Moves.Frames.{tree-moves, behind-later, Frame, awaited, later, lefts, read, made, Before, Found, Partly, word-found, done-found, pushed}
 
 -- the second stack: the symbol to come and what stands below it
@@ -56,7 +56,7 @@ module _ (g : Grammar) (fair : Fair g) (ws : List Word) (ms : List ℕ) where
   last : (us : List Word) (ns : List ℕ) → Ends g (stacks (map word us) [] []) ns → (us ≡ []) × (ns ≡ [])
   last [] [] h = (refl, refl)
   last (w ∷ us) [] h = absurd (some-first g (word w) (map word us) [] [] h)
-  last us (n ∷ q) h = absurd (refused g q (only-move g (map word us) [] [] n q (empty-apart (map word us)) h .1))
+  last us (n ∷ q) h = absurd (refused g q (only-move g (map word us) [] [] n q (empty-blocked (map word us)) h .1))
 
   -- a tree of the start part over all words is a reading of them
   whole : (us : List Word) (ns : List ℕ) (t : Tree g (g .start)) → Before ws (leaves g (g .start) t) us → ms ≡ tree-moves g (g .start) t ++ (129 ∷ ns)
@@ -104,7 +104,7 @@ module _ (g : Grammar) (fair : Fair g) (ws : List Word) (ms : List ℕ) where
 
   closing-more : (n : ℕ) (q : List ℕ) → Taking q → Closing (n ∷ q)
   closing-more n q taking r ks us fs p e h =
-      let m = only-move g (map word us) (end ∷ pending g fs) (left g r ∷ lefts g fs) n q (end-apart (map word us) (pending g fs)) h in
+      let m = only-move g (map word us) (end ∷ pending g fs) (left g r ∷ lefts g fs) n q (end-blocked (map word us) (pending g fs)) h in
       taking (done (left g r)) us fs (done-found g ws ms r ks us fs q (subst (λ x. Partly g ws ms r ks fs us (x ∷ q)) (m .0) p) e) (m .1)
 
   -- when a symbol is to come and only words stand on the first stack, the next word is taken

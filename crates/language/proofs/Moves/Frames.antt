@@ -8,12 +8,13 @@ use Prim.Native.Nat.{ℕ, zero, suc, _<_, _≤_}
 use native.Mathlib.Omega.{arith}
 use lib.Dec.{T}
 use lib.ListN.{drop}
-use Rattle.std.proofs.shelf.Tests.{and-parts, leb-true, eqb-true}
+use Rattle.std.proofs.shelf.Tests.{and-parts, eqb-true}
 use Rattle.language.specs.Book.{Grammar, left, right, size, symbol}
 use Rattle.language.specs.Words.{Word, Is}
 use Rattle.language.specs.Readings.{Children, yield, count, Fits}
 use Rattle.language.specs.Machine.{word, done, Awaited, next, end, agrees}
 use Rattle.language.specs.Moves.{behind, inner}
+use Rattle.language.proofs.Tests.{key-test}
 use Rattle.language.proofs.Words.{is-append, single-is}
 use Rattle.language.proofs.Chart.Turned.{Tree, leaves, push, push-fits, push-count, push-yield}
 
@@ -89,10 +90,9 @@ module _ (g : Grammar) (ws : List Word) (ms : List ℕ) where
       → (X : ℕ) → agrees g (word w) X ≡ true → Found X fs us ns
   word-found w us fs ns b e X a =
       let h = and-parts _ (w X) a in
-      let k = and-parts _ _ (h .0) in
       let matches : T (w X) = subst T (sym (h .1)) tt in
       record {
-        tree = inl (record { low = leb-true 33 X (k .0); high = leb-true X _ (k .1) });
+        tree = inl (key-test g X (h .0));
         words = λ q i. rw append-assoc (b (X ∷ q) (is-append (X ∷ []) (w ∷ []) q us (single-is X w matches) i));
         is = e;
       }

@@ -10,11 +10,12 @@ use lib.Dec.{T, eqb}
 use lib.ListN.{length, drop}
 use lib.Seq.{drop-cons}
 use Rattle.std.proofs.shelf.Lists.{drop-all}
-use Rattle.std.proofs.shelf.Tests.{cond-true, cond-false, and-from, le-leb, eq-eqb, ne-eqb}
+use Rattle.std.proofs.shelf.Tests.{cond-true, cond-false, and-from, eq-eqb, ne-eqb}
 use Rattle.language.specs.Book.{Grammar, Key, Numbered, left, right, size, symbol}
 use Rattle.language.specs.Words.{Word}
 use Rattle.language.specs.Machine.{Entry, word, done, Awaited, next, end, State, stacks, is-rule, agrees, reduce, move, remove, step, after, steps}
 use Rattle.language.specs.Moves.{behind}
+use Rattle.language.proofs.Tests.{test-key, test-rule}
 
 -- moves put together lead where the second ones lead from where the first ones led
 pub steps-append : (g : Grammar) (s : Option State) (p q : List ℕ) → steps g s (p ++ q) ≡ steps g (steps g s p) q
@@ -23,7 +24,7 @@ steps-append g s (n ∷ p) q = steps-append g (after g s n) p q
 
 -- a word that matches a key agrees with it
 pub word-agrees : (g : Grammar) (w : Word) (c : ℕ) → Key g c → T (w c) → agrees g (word w) c ≡ true
-word-agrees g w c k h = and-from _ (w c) (and-from _ _ (le-leb 33 c (k .low)) (le-leb c _ (k .high))) (is-true (w c) h)
+word-agrees g w c k h = and-from _ (w c) (test-key g c k) (is-true (w c) h)
 
 -- a part that is done agrees with itself
 pub done-agrees : (g : Grammar) (X c : ℕ) → c ≡ X → agrees g (done X) c ≡ true
@@ -68,7 +69,7 @@ module _ (g : Grammar) (few : length (g .rules) ≤ 128) where
   rule-step r n s =
       cond-false (eqb r 0) _ _ (ne-eqb r 0 (λ e. omega (arith, n .low)))
       ∙ (cond-false (eqb r 129) _ _ (ne-eqb r 129 (λ e. omega (arith, n .high)))
-      ∙ cond-true (is-rule g r) _ none (and-from _ _ (le-leb 1 r (n .low)) (le-leb r _ (n .high))))
+      ∙ cond-true (is-rule g r) _ none (test-rule g r n))
 
   -- the move behind a child takes an entry that agrees with the symbol at place d
   pub behind-step : (r d B : ℕ) (e : Entry) (es : List Entry) (bs : List Awaited) (ls : List ℕ) → Numbered g r → d < size g r → agrees g e (symbol g r d) ≡ true

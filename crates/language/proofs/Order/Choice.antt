@@ -12,7 +12,7 @@ use Rattle.language.specs.Readings.{Children, none, key, part, yield, count, F
 use Rattle.language.specs.Order.{beginnings, Earlier, Inner, Before}
 use Rattle.language.specs.Choice.{Covers, word, reading, Lowest, Earliest, Chosen, ChoiceTheorem}
 use Rattle.language.proofs.Words.{is-front, is-back, is-single}
-use Rattle.language.proofs.Order.Total.{Apart, sound-apart, same-symbol, whole-count, not-both}
+use Rattle.language.proofs.Order.Total.{KeysApart, sound-apart, same-symbol, whole-count, not-both}
 
 -- beginnings are earlier, or the same and so is what follows, or that comes first
 abbrev Ahead : List ℕ → List ℕ → Type 0 → Type 0 → Type 0
@@ -49,7 +49,7 @@ parts-lead ks ls s t cs ds (inl (e, p)) (inl q) = inl (cc)
 parts-lead ks ls s t cs ds (inl (e, p)) (inr i) = inr (inr (e, p, i))
 parts-lead ks ls s t cs ds (inr b) o = inr (inl b)
 
-module _ (g : Grammar) (apart : Apart g) where
+module _ (g : Grammar) (apart : KeysApart g) where
   -- the chosen child begins no later than another at its place
   begins-first : (r d b : ℕ) (ws : List Word) (ls : Children) → Earliest g r d b ws → Fits g r ls → count ls ≡ d → Is (yield ls) (take (length (yield ls)) ws)
       → Covers g (symbol g r d) (drop (length (yield ls)) ws) → b ≤ length (yield ls)

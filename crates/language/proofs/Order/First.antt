@@ -15,7 +15,7 @@ use Rattle.language.proofs.Moves.Rules.{few-rules-below}
 use Rattle.language.proofs.Order.Listed.{Listed, Below, Made, listed-one, listed-same, listed-when, listed-below, listed-made, least-listed}
 use Rattle.language.proofs.Order.Shallow.{Shallow, depth, depth-below, listed-shallow}
 use Rattle.language.proofs.Order.Strict.{before-trans, before-irreflexive}
-use Rattle.language.proofs.Order.Total.{Apart, sound-apart, before-total}
+use Rattle.language.proofs.Order.Total.{KeysApart, sound-apart, before-total}
 use Rattle.language.proofs.Fits.{fits-numbered}
 
 -- a rule and children for it
@@ -46,7 +46,7 @@ module _ (g : Grammar) (X : ℕ) (ws : List Word) where
   both-first a b (inr h) (inl same) = (sym (same .0), sym (same .1))
   both-first a b (inr h) (inr k) = absurd (before-irreflexive (a .reading .by) (a .reading .children) (comes-trans (tree-of a) (tree-of b) (tree-of a) h k))
 
-  comes-total : Apart g → (a b : Tree) → Read g X ws a → Read g X ws b → (a ≡ b) ⊎ (Comes a b ⊎ Comes b a)
+  comes-total : KeysApart g → (a b : Tree) → Read g X ws a → Read g X ws b → (a ≡ b) ⊎ (Comes a b ⊎ Comes b a)
   comes-total apart a b (t, e) (u, k) =
       let r = t .reading in
       let q = u .reading in
@@ -79,7 +79,7 @@ module _ (g : Grammar) (X : ℕ) (ws : List Word) (n : ℕ) (bounded : (t : Read
   listed-readings : Listed (Read g X ws)
   listed-readings = listed-same (Below ByRule (suc (length (g .rules)))) (Read g X ws) by-rule rule-by (listed-below ByRule listed-by (suc (length (g .rules))))
 
-  first-exists : Apart g → Reads g X ws → First g X ws
+  first-exists : KeysApart g → Reads g X ws → First g X ws
   first-exists apart t =
       let found = least-listed Comes comes-trans (Read g X ws) (comes-total g X ws apart) listed-readings (tree-of t) (t, refl) in
       let (a, e) = found .holds in

@@ -14,10 +14,10 @@ use Rattle.language.proofs.Fits.{fits-numbered}
 use Rattle.language.proofs.Chart.Fair.{left-apart}
 
 -- no key is the left side of a rule
-abbrev pub Apart : Grammar → Type 0
-Apart g = (c s : ℕ) → Key g c → Numbered g s → c ≡ left g s → ⊥
+abbrev pub KeysApart : Grammar → Type 0
+KeysApart g = (c s : ℕ) → Key g c → Numbered g s → c ≡ left g s → ⊥
 
-pub sound-apart : (m : Meaning) → Sound m → Apart (m .grammar)
+pub sound-apart : (m : Meaning) → Sound m → KeysApart (m .grammar)
 sound-apart m sound c s k n e = left-apart m sound s n (subst (Key (m .grammar)) e k)
 
 -- two things are the same, or one of them comes first
@@ -73,7 +73,7 @@ module _ (g : Grammar) where
   pub same-symbol : (r a b c d : ℕ) → suc a ≡ suc b → symbol g r a ≡ c → symbol g r b ≡ d → c ≡ d
   same-symbol r a b c d e p q = let same : a ≡ b = omega arith in sym p ∙ (ap (symbol g r) same ∙ q)
 
-module _ (g : Grammar) (apart : Apart g) where
+module _ (g : Grammar) (apart : KeysApart g) where
   -- one place of a rule does not hold a key and a part
   pub not-both : (r a b c s : ℕ) (cs : Children) → suc a ≡ suc b → symbol g r a ≡ c → Key g c → symbol g r b ≡ left g s → Fits g s cs → ⊥
   not-both r a b c s cs e p k q f = apart c s k (fits-numbered g s cs f) (same-symbol g r a b c (left g s) e p q)
