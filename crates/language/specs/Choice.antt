@@ -51,6 +51,7 @@ LowestHeld g ws r i k = (q : ℕ) → left g q ≡ left g r → Held g ws q (siz
 abbrev pub EarliestHeld : Grammar → List Word → ℕ → ℕ → ℕ → ℕ → ℕ → Type 0
 EarliestHeld g ws r d i b k = (j : ℕ) → Held g ws r d i j → Spans g ws (symbol g r d) j k → b ≤ j
 
+-- the children are chosen so, and everything below them
 abbrev pub ChosenHeld : Grammar → List Word → ℕ → ℕ → Children → Type 0
 ChosenHeld g ws r i none = Unit {0}
 ChosenHeld g ws r i (key ks c) = EarliestHeld g ws r (count ks) i (i + length (yield ks)) (i + length (yield (key ks c))) × ChosenHeld g ws r i ks

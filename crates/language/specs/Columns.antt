@@ -58,7 +58,9 @@ pub record Joined (g : Grammar) (ws : List Word) (k : ℕ) (N : ℕ → Type 0) 
   pub first : k ≡ 0 → (Y : ℕ) → Corner g (g .start) Y → N Y
   pub next : (r d i Y : ℕ) → Held g ws r d i k → d < size g r → Corner g (symbol g r d) Y → N Y
 
+-- what is known of the columns, a column being the items that end at one word
 pub record ColumnsAre (g : Grammar) (ws : List Word) : Type 0 where
+  -- items lie within the words and within their rule
   pub bounds : (r d i k : ℕ) → Held g ws r d i k → InBounds g ws r d i k
   -- items that end at word k, and what is wanted after it, depend on the first k words alone
   pub local : (vs : List Word) (r d i k : ℕ) → take k ws ≡ take k vs → Held g ws r d i k → Held g vs r d i k
@@ -67,6 +69,7 @@ pub record ColumnsAre (g : Grammar) (ws : List Word) : Type 0 where
   pub few : (ts : List Item) → AllHeld g ws ts → Apart ts → length ts ≤ lengths (g .rules) * (length ws * (length ws + 1) / 2)
   -- a set that is closed over the settled columns holds every item of the new column
   pub least : (k : ℕ) (S : ℕ → ℕ → ℕ → Bool) → Closed g ws k (λ r d i. T (S r d i)) → (r d i : ℕ) → Held g ws r d i k → T (S r d i)
+  -- the same for what is wanted after a word
   pub least-wanted : (k : ℕ) (N : ℕ → Bool) → Joined g ws k (λ Y. T (N Y)) → (Y : ℕ) → Wanted g ws k Y → T (N Y)
 
 abbrev pub ColumnsTheorem : Type 0

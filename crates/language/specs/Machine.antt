@@ -25,12 +25,15 @@ pub record State : Type 0 where
   pub second : List Awaited
   pub third : List ℕ
 
+-- a state by its three stacks
 abbrev pub stacks : List Entry → List Awaited → List ℕ → State
 stacks es bs ls = record { first = es; second = bs; third = ls }
 
+-- c is a key of the book
 abbrev pub is-key : Grammar → ℕ → Bool
 is-key g c = leb 33 c && leb c (32 + g .keys)
 
+-- r is a rule of the book
 abbrev pub is-rule : Grammar → ℕ → Bool
 is-rule g r = leb 1 r && leb r (length (g .rules))
 
@@ -69,6 +72,7 @@ step g s n =
     (cond (eqb n 129) (remove g (s .first) (s .second) (s .third))
     (cond (is-rule g n) (reduce g n (s .first) (s .second) (s .third)) none))
 
+-- one more move, if the ones before were allowed
 abbrev pub after : Grammar → Option State → ℕ → Option State
 after g none n = none
 after g (some s) n = step g s n

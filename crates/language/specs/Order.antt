@@ -28,7 +28,7 @@ Earlier (x ∷ xs) (y ∷ ys) = (x < y) ⊎ ((x ≡ y) × Earlier xs ys)
 abbrev pub Top : ℕ → List ℕ → ℕ → List ℕ → Type 0 → Type 0
 Top r bs q cs I = (r < q) ⊎ ((r ≡ q) × (Earlier bs cs ⊎ ((bs ≡ cs) × I)))
 
--- of children of one rule with the same beginnings: the last child whose readings differ comes first
+-- of children of one rule with the same beginnings: at the last child whose readings differ, the first reading comes first
 abbrev pub Inner : Children → Children → Type 0
 Inner none ls = ⊥
 Inner (key ks c) none = ⊥

@@ -52,6 +52,7 @@ pub record Item : Type 0 where
   pub start : ℕ
   pub end : ℕ
 
+-- an item by its four numbers
 abbrev pub item : ℕ → ℕ → ℕ → ℕ → Item
 item r d i k = record { rule = r; done = d; start = i; end = k }
 
