@@ -2,8 +2,8 @@ pub mod Between
 pub mod Complete
 pub mod Context
 pub mod Done
-pub mod Fair
 pub mod Local
+pub mod Proper
 pub mod Theorem
 pub mod Turned
 pub mod Used

@@ -3,6 +3,7 @@ pub mod Columns
 pub mod Corners
 pub mod Fits
 pub mod Masks
+pub mod Members
 pub mod Moves
 pub mod Order
 pub mod Pigeonhole

@@ -1,11 +1,10 @@
 -- A list in which nothing stands twice is no longer than a list that holds all of it.
-use mathlib.Core.Path.{_≡_, refl, sym, ap, subst, _∙_}
-use mathlib.Core.Logic.{inl, inr, ⊎-elim}
-use mathlib.Core.List.{List, [], _∷_, _++_}
-use Prim.Native.Nat.{ℕ, zero, suc, _≤_}
+use mathlib.Core.Path.{_≡_, refl, sym, subst, _∙_}
+use mathlib.Core.Logic.{inl, inr}
+use mathlib.Core.List.{List, [], _∷_}
+use Prim.Native.Nat.{suc, _≤_}
 use native.Mathlib.Omega.{arith}
 use lib.ListN.{length}
-use Rattle.std.proofs.shelf.Tests.{cases-order}
 use Rattle.language.specs.Columns.{Among, Apart}
 
 module _ {A : Type 0} where
@@ -37,30 +36,3 @@ module _ {A : Type 0} where
       let w = without t xs (h t (inl refl)) in
       let n : length ts ≤ length (w .rest) = no-more ts (w .rest) (a .1) (λ u m. w .others u (h u (inr m)) (λ e. a .0 (subst (λ x. Among x ts) e m))) in
       omega (arith, w .shorter)
-
-  -- a member of either list is a member of the two put together
-  pub among-front : (t : A) (xs ys : List A) → Among t xs → Among t (xs ++ ys)
-  among-front t [] ys h = absurd h
-  among-front t (x ∷ xs) ys (inl e) = inl e
-  among-front t (x ∷ xs) ys (inr h) = inr (among-front t xs ys h)
-
-  pub among-back : (t : A) (xs ys : List A) → Among t ys → Among t (xs ++ ys)
-  among-back t [] ys h = h
-  among-back t (x ∷ xs) ys h = inr (among-back t xs ys h)
-
-  -- what f tells at 1 to n
-  pub upto : (ℕ → A) → ℕ → List A
-  upto f zero = []
-  upto f (suc d) = f (suc d) ∷ upto f d
-
-  -- they are n
-  pub upto-length : (f : ℕ → A) (n : ℕ) → length (upto f n) ≡ n
-  unfolding upto
-  upto-length f zero = refl
-  upto-length f (suc n) = ap suc (upto-length f n)
-
-  -- each of them stands in the list
-  pub upto-among : (f : ℕ → A) (n d : ℕ) → 1 ≤ d → d ≤ n → Among (f d) (upto f n)
-  unfolding upto
-  upto-among f zero d l h = absurd (omega arith)
-  upto-among f (suc n) d l h = ⊎-elim (λ e. inl (ap f e)) (⊎-elim (λ b. inr (upto-among f n d l (omega arith))) (λ b. absurd (omega arith))) (cases-order d (suc n))

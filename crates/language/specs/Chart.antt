@@ -6,6 +6,7 @@ use lib.Dec.{T}
 use lib.ListN.{length, getD}
 use Rattle.language.specs.Book.{Grammar, Key, Numbered, left, size, symbol}
 use Rattle.language.specs.Words.{Word, blank}
+use Rattle.language.specs.Readings.{Item}
 
 -- the left corners of X: the least set that holds X and, for each rule whose left side it holds, that rule's first symbol
 pub data Corner (g : Grammar) (X : ℕ) : ℕ → Type 0 where
@@ -33,6 +34,10 @@ mutual
     word : (c j : ℕ) → Key g c → T (getD ws j blank c) → Spans g ws c j (suc j)
     -- the left side of a finished item
     finished : (r j k : ℕ) → Held g ws r (size g r) j k → Spans g ws (left g r) j k
+
+-- the item is held
+abbrev pub HeldItem : Grammar → List Word → Item → Type 0
+HeldItem g ws t = Held g ws (t .rule) (t .done) (t .start) (t .end)
 
 -- a finished item of a rule of the start part spans all words
 pub record Whole (g : Grammar) (ws : List Word) : Type 0 where

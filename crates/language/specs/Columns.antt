@@ -6,11 +6,12 @@ use mathlib.Core.List.{List, [], _∷_}
 use Prim.Native.Nat.{ℕ, suc, _+_, _*_, _/_, _<_, _≤_}
 use lib.Dec.{T}
 use lib.ListN.{length, getD, take}
+use Rattle.std.specs.shelf.Lists.{All}
 use Rattle.language.specs.Book.{Rule, Grammar, Key, Numbered, Meaning, left, size, symbol}
 use Rattle.language.specs.Sound.{Sound}
 use Rattle.language.specs.Words.{Word, blank}
 use Rattle.language.specs.Readings.{Item}
-use Rattle.language.specs.Chart.{Corner, Wanted, Held}
+use Rattle.language.specs.Chart.{Corner, Wanted, Held, HeldItem}
 
 -- an item lies within the words, and some of its rule's symbols are done
 pub record InBounds (g : Grammar) (ws : List Word) (r d i k : ℕ) : Type 0 where
@@ -24,11 +25,6 @@ pub record InBounds (g : Grammar) (ws : List Word) (r d i k : ℕ) : Type 0 wher
 abbrev pub lengths : List Rule → ℕ
 lengths [] = 0
 lengths (w ∷ rs) = length (w .body) + lengths rs
-
--- every item of the list is held
-abbrev pub AllHeld : Grammar → List Word → List Item → Type 0
-AllHeld g ws [] = Unit {0}
-AllHeld g ws (t ∷ ts) = Held g ws (t .rule) (t .done) (t .start) (t .end) × AllHeld g ws ts
 
 -- t stands in the list
 abbrev pub Among : {A : Type 0} → A → List A → Type 0
@@ -66,7 +62,7 @@ pub record ColumnsAre (g : Grammar) (ws : List Word) : Type 0 where
   pub local : (vs : List Word) (r d i k : ℕ) → take k ws ≡ take k vs → Held g ws r d i k → Held g vs r d i k
   pub local-wanted : (vs : List Word) (k Y : ℕ) → take k ws ≡ take k vs → Wanted g ws k Y → Wanted g vs k Y
   -- at most L n (n + 1) / 2 items over n words
-  pub few : (ts : List Item) → AllHeld g ws ts → Apart ts → length ts ≤ lengths (g .rules) * (length ws * (length ws + 1) / 2)
+  pub few : (ts : List Item) → All (HeldItem g ws) ts → Apart ts → length ts ≤ lengths (g .rules) * (length ws * (length ws + 1) / 2)
   -- a set that is closed over the settled columns holds every item of the new column
   pub least : (k : ℕ) (S : ℕ → ℕ → ℕ → Bool) → Closed g ws k (λ r d i. T (S r d i)) → (r d i : ℕ) → Held g ws r d i k → T (S r d i)
   -- the same for what is wanted after a word

@@ -4,24 +4,22 @@
 -- each item that follows from the whole list is in it.
 use mathlib.Core.Path.{_≡_, sym, subst}
 use mathlib.Core.Bool.{Bool, true, _&&_, _||_}
-use mathlib.Core.Logic.{inl, inr, ⊎-elim}
+use mathlib.Core.Logic.{⊎-elim}
 use mathlib.Core.List.{List, [], _∷_}
 use Prim.Native.Nat.{ℕ, suc}
 use lib.Dec.{T, eqb, ltb}
 use lib.ListN.{getD}
+use Rattle.std.specs.shelf.Lists.{All}
 use Rattle.std.proofs.shelf.Tests.{and-parts, or-cases, eqb-true, ltb-true}
 use Rattle.language.specs.Book.{Grammar, left, size, symbol}
 use Rattle.language.specs.Words.{Word, blank}
 use Rattle.language.specs.Readings.{Item}
 use Rattle.language.specs.Machine.{is-key, is-rule}
-use Rattle.language.specs.Chart.{Wanted, Held, Spans, first, next, begin, advance, word, finished}
-use Rattle.language.specs.Columns.{AllHeld, Among}
+use Rattle.language.specs.Chart.{Wanted, Held, HeldItem, Spans, first, next, begin, advance, word, finished}
+use Rattle.language.proofs.Members.{all-among}
 use Rattle.language.proofs.Tests.{key-test, rule-test}
 use Rattle.worked.proofs.Check.{any, any-member, has}
 use Rattle.worked.proofs.Corners.{corners, corners-sound}
-
-abbrev pub HeldItem : Grammar → List Word → Item → Type 0
-HeldItem g ws t = Held g ws (t .rule) (t .done) (t .start) (t .end)
 
 pub T-true : (b : Bool) → b ≡ true → T b
 T-true b e = subst T (sym e) tt
@@ -55,12 +53,7 @@ module _ (g : Grammar) (ws : List Word) where
   unfoldable pub follows : (ℕ → ℕ → Bool) → List Item → Item → Bool
   follows N ts t = begun N ts t || any (advanced ts t) ts
 
-  pub held-member : (ts : List Item) (u : Item) → AllHeld g ws ts → Among u ts → HeldItem g ws u
-  held-member [] u a m = absurd m
-  held-member (t ∷ ts) u a (inl e) = subst (HeldItem g ws) (sym e) (a .0)
-  held-member (t ∷ ts) u a (inr m) = held-member ts u (a .1) m
-
-  module _ (ts : List Item) (held : AllHeld g ws ts) where
+  module _ (ts : List Item) (held : All (HeldItem g ws) ts) where
     ended-spans : (X j k : ℕ) (u : Item) → HeldItem g ws u → ended X j k u ≡ true → Spans g ws X j k
     unfolding ended
     ended-spans X j k u h e =
@@ -82,7 +75,7 @@ module _ (g : Grammar) (ws : List Word) where
     unfolding spanned
     spanned-spans X j k e = ⊎-elim
         (word-spans X j k)
-        (λ h. let m = any-member (ended X j k) ts h in ended-spans X j k (m .the) (held-member ts (m .the) held (m .among)) (m .has))
+        (λ h. let m = any-member (ended X j k) ts h in ended-spans X j k (m .the) (all-among (HeldItem g ws) ts (m .the) held (m .among)) (m .has))
         (or-cases (is-key g X && (eqb k (suc j) && getD ws j blank X)) (any (ended X j k) ts) e)
 
     wanting-wanted : (k Y : ℕ) (u : Item) → HeldItem g ws u → wanting k Y u ≡ true → Wanted g ws k Y
@@ -102,7 +95,7 @@ module _ (g : Grammar) (ws : List Word) where
     unfolding wants
     wants-wanted k Y e = ⊎-elim
         (first-wanted k Y)
-        (λ h. let m = any-member (wanting k Y) ts h in wanting-wanted k Y (m .the) (held-member ts (m .the) held (m .among)) (m .has))
+        (λ h. let m = any-member (wanting k Y) ts h in wanting-wanted k Y (m .the) (all-among (HeldItem g ws) ts (m .the) held (m .among)) (m .has))
         (or-cases (eqb k 0 && has Y (corners g (g .start))) (any (wanting k Y) ts) e)
 
     begun-held : (t : Item) → begun (wants ts) ts t ≡ true → HeldItem g ws t
@@ -131,7 +124,7 @@ module _ (g : Grammar) (ws : List Word) where
     unfolding follows
     follows-held t e = ⊎-elim
         (begun-held t)
-        (λ h. let m = any-member (advanced ts t) ts h in advanced-held t (m .the) (held-member ts (m .the) held (m .among)) (m .has))
+        (λ h. let m = any-member (advanced ts t) ts h in advanced-held t (m .the) (all-among (HeldItem g ws) ts (m .the) held (m .among)) (m .has))
         (or-cases (begun (wants ts) ts t) (any (advanced ts t) ts) e)
 
   -- each item of the list follows from those before it
@@ -139,7 +132,7 @@ module _ (g : Grammar) (ws : List Word) where
   derived seen [] = true
   derived seen (t ∷ ts) = follows (wants seen) seen t && derived (t ∷ seen) ts
 
-  pub derived-held : (seen ts : List Item) → AllHeld g ws seen → derived seen ts ≡ true → AllHeld g ws ts
+  pub derived-held : (seen ts : List Item) → All (HeldItem g ws) seen → derived seen ts ≡ true → All (HeldItem g ws) ts
   unfolding derived
   derived-held seen [] a h = tt
   derived-held seen (t ∷ ts) a h =

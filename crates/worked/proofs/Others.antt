@@ -8,31 +8,31 @@ use Rattle.language.specs.Closure.{Productive, UnitPath}
 use Rattle.language.specs.Sound.{Sound}
 use Rattle.language.specs.Words.{only}
 use Rattle.language.specs.Readings.{none, key, part, item}
-use Rattle.language.specs.Drafts.{Bright}
+use Rattle.language.specs.Drafts.{MatchesLit}
 use Rattle.rulebook.specs.Presses.{PressRefused, PressTaken}
 use Rattle.rulebook.specs.declared.faults.Fault.the-variants.{DarkWord, ChartFull, Unproductive, UnitCycle}
 use Rattle.soundbook.specs.Refusals.{Refused}
 use Rattle.worked.specs.Books.{book-a, letters-b, book-b, endless, circular, pressed}
 use Rattle.worked.specs.Examples.{FirstMoves}
-use Rattle.worked.proofs.Shown.{not-bright, bright}
+use Rattle.worked.proofs.Shown.{matches-none, matches}
 use Rattle.worked.proofs.Sound.{sound-test, well-formed-test, productive-test, all-productive-test}
 use Rattle.worked.proofs.Computed.{tests, first-moves}
 use Rattle.worked.proofs.BookA.{one-held, three-held, four-held}
 
 pub one-dark : (places : ℕ) → PressRefused book-a places (pressed (33 ∷ [])) (only 34) (DarkWord 1)
 unfolding tests
-one-dark places = PressRefused.dark (omega arith) (not-bright book-a (pressed (33 ∷ [])) (only 34) (35 ∷ []) (one-held .lit) refl)
+one-dark places = PressRefused.dark (omega arith) (matches-none book-a (pressed (33 ∷ [])) (only 34) (35 ∷ []) (one-held .lit) refl)
 
 -- the fourth word matches the key that is lit after the third
-fourth-bright : Bright book-a (pressed (33 ∷ 35 ∷ 34 ∷ [])) (only 35)
+fourth-matches : MatchesLit book-a (pressed (33 ∷ 35 ∷ 34 ∷ [])) (only 35)
 unfolding tests
-fourth-bright = bright book-a (pressed (33 ∷ 35 ∷ 34 ∷ [])) (only 35) (35 ∷ []) 35 (three-held .lit) refl refl
+fourth-matches = matches book-a (pressed (33 ∷ 35 ∷ 34 ∷ [])) (only 35) (35 ∷ []) 35 (three-held .lit) refl refl
 
 pub four-crowded : PressRefused book-a 7 (pressed (33 ∷ 35 ∷ 34 ∷ [])) (only 35) (ChartFull 3)
-four-crowded = PressRefused.crowded _ (omega arith) fourth-bright (four-held .items) (omega arith)
+four-crowded = PressRefused.crowded _ (omega arith) fourth-matches (four-held .items) (omega arith)
 
 pub four-taken : PressTaken book-a 8 (pressed (33 ∷ 35 ∷ 34 ∷ [])) (only 35)
-four-taken = record { room = omega arith; bright = fourth-bright; items = _; exact = four-held .items; fits = omega arith }
+four-taken = record { room = omega arith; matches = fourth-matches; items = _; exact = four-held .items; fits = omega arith }
 
 pub sound-b : Sound letters-b
 unfolding tests

@@ -6,17 +6,19 @@ use Prim.Native.Nat.{ℕ, _≤_}
 use denote.Floats.{is-true}
 use lib.Dec.{eqb}
 use lib.ListN.{length, getD}
+use Rattle.std.specs.shelf.Lists.{All}
 use Rattle.std.proofs.shelf.Tests.{and-parts, and-from, eqb-true, eq-eqb, both-ways, not-true}
 use Rattle.language.specs.Book.{Grammar, Numbered, left, size}
 use Rattle.language.specs.Words.{Word}
 use Rattle.language.specs.Readings.{Item, item}
 use Rattle.language.specs.Machine.{is-key}
-use Rattle.language.specs.Chart.{Whole, Wanted, Held, Spans}
-use Rattle.language.specs.Columns.{AllHeld, Among, Apart}
-use Rattle.language.specs.Drafts.{Items, Lit, LitKeys, Bright}
+use Rattle.language.specs.Chart.{Whole, Wanted, Held, HeldItem, Spans}
+use Rattle.language.specs.Columns.{Among, Apart}
+use Rattle.language.specs.Drafts.{Items, Lit, LitKeys, MatchesLit}
 use Rattle.worked.proofs.Check.{any, every, any-member, member-any, every-member, has, has-among}
+use Rattle.language.proofs.Members.{all-among}
 use Rattle.language.proofs.Tests.{key-test, test-key}
-use Rattle.worked.proofs.Items.{T-true, ended, spanned, wants, wants-wanted, derived, derived-held, held-member}
+use Rattle.worked.proofs.Items.{T-true, ended, spanned, wants, wants-wanted, derived, derived-held}
 use Rattle.worked.proofs.Closed.{implies, implied, same-item, same-self, listed, closed, corners-listed, closed-next, closed-items, held-among, wanted-listed, spans-spanned}
 
 -- no item stands twice in the list
@@ -56,7 +58,7 @@ module _ (g : Grammar) (ws : List Word) (ts : List Item) (Ns : List (List ℕ)) 
     unfolding exact
     apart-is = and-parts (closed g ws ts Ns) (apart ts) (and-parts (derived g ws [] ts) _ tested .1) .1
 
-    all-held : AllHeld g ws ts
+    all-held : All (HeldItem g ws) ts
     all-held = derived-held g ws [] ts tt derived-is
 
     first-closed : corners-listed g ws ts Ns 0 (g .start) ≡ true
@@ -104,7 +106,7 @@ module _ (g : Grammar) (ws : List Word) (ts : List Item) (Ns : List (List ℕ)) 
         let p = and-parts (eqb (left g (u .rule)) (g .start)) _ (m .has) in
         let q = and-parts (eqb (u .done) (size g (u .rule))) _ (p .1) in
         let r = and-parts (eqb (u .start) 0) (eqb (u .end) (length ws)) (q .1) in
-        let h0 = held-member g ws ts u all-held (m .among) in
+        let h0 = all-among (HeldItem g ws) ts u all-held (m .among) in
         let h1 = subst (λ x. Held g ws (u .rule) x (u .start) (u .end)) (eqb-true _ _ (q .0)) h0 in
         let h2 = subst (λ x. Held g ws (u .rule) (size g (u .rule)) x (u .end)) (eqb-true _ _ (r .0)) h1 in
         record { by = u .rule; heads = eqb-true _ _ (p .0); held = subst (λ x. Held g ws (u .rule) (size g (u .rule)) 0 x) (eqb-true _ _ (r .1)) h2 }
@@ -117,9 +119,9 @@ module _ (g : Grammar) (ws : List Word) (ts : List Item) (Ns : List (List ℕ)) 
         (and-from (eqb 0 0) (eqb (length ws) (length ws)) refl (eq-eqb (length ws) (length ws) refl)))))
 
 -- a word that matches none of the lit keys
-pub not-bright : (g : Grammar) (ws : List Word) (w : Word) (cs : List ℕ) → LitKeys g ws cs → every (λ c. not (w c)) cs ≡ true → Bright g ws w → ⊥
-not-bright g ws w cs l h b = both-ways (w (b .key)) (not-true _ (every-member (λ c. not (w c)) cs (b .key) h (l (b .key) .1 (b .lit)))) (is-true _ (b .matches))
+pub matches-none : (g : Grammar) (ws : List Word) (w : Word) (cs : List ℕ) → LitKeys g ws cs → every (λ c. not (w c)) cs ≡ true → MatchesLit g ws w → ⊥
+matches-none g ws w cs l h b = both-ways (w (b .key)) (not-true _ (every-member (λ c. not (w c)) cs (b .key) h (l (b .key) .1 (b .lit)))) (is-true _ (b .matches))
 
 -- a word that matches the lit key c
-pub bright : (g : Grammar) (ws : List Word) (w : Word) (cs : List ℕ) (c : ℕ) → LitKeys g ws cs → has c cs ≡ true → w c ≡ true → Bright g ws w
-bright g ws w cs c l h m = record { key = c; lit = l c .0 (has-among c cs h); matches = T-true _ m }
+pub matches : (g : Grammar) (ws : List Word) (w : Word) (cs : List ℕ) (c : ℕ) → LitKeys g ws cs → has c cs ≡ true → w c ≡ true → MatchesLit g ws w
+matches g ws w cs c l h m = record { key = c; lit = l c .0 (has-among c cs h); matches = T-true _ m }

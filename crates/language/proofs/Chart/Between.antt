@@ -5,7 +5,7 @@ use Prim.Native.Nat.{ℕ, suc, _+_, _-_, _<_, _≤_}
 use native.Mathlib.Omega.{arith}
 use lib.Dec.{T}
 use lib.ListN.{length, getD, take, drop, length-take, length-drop}
-use lib.Seq.{take-add, take-length, drop-drop, drop-cons, length-take-le}
+use lib.Seq.{take-add, take-take, take-length, drop-drop, drop-cons, length-take-le}
 use Rattle.std.proofs.shelf.Lists.{drop-take}
 use Rattle.language.specs.Words.{Word, blank, Begins, Is, between}
 use Rattle.language.proofs.Words.{is-append, begins-back}
@@ -51,6 +51,12 @@ module _ (ws : List Word) where
   -- behind the first i words
   pub take-between : (i k : ℕ) → i ≤ k → take i ws ++ between i k ws ≡ take k ws
   take-between i k h = ap (λ us. us ++ between i k ws) (sym (between-first i)) ∙ (between-join 0 i k (omega arith) h ∙ between-first k)
+
+  -- the first n of them
+  pub between-front : (i k n : ℕ) → i + n ≤ k → take n (between i k ws) ≡ between i (i + n) ws
+  between-front i k n h =
+      let e : n ≡ i + n - i = omega arith in
+      take-take n (k - i) (drop i ws) (omega arith) ∙ ap (λ m. take m (drop i ws)) e
 
   -- without the first n of them
   pub between-back : (i k n : ℕ) → i + n ≤ k → drop n (between i k ws) ≡ between (i + n) k ws

@@ -16,7 +16,7 @@ use Rattle.language.proofs.Fits.{fits-numbered, fits-count}
 use Rattle.language.proofs.Chart.Between.{length-between, between-none, is-between}
 use Rattle.language.proofs.Columns.Bounds.{held-bounds}
 use Rattle.language.proofs.Chart.Done.{held-done, done-none}
-use Rattle.language.proofs.Chart.Fair.{Fair}
+use Rattle.language.proofs.Chart.Proper.{Proper}
 use Rattle.language.proofs.Chart.Turned.{Tree, leaves, Below, push, push-fits, push-yield, push-below, uses-last, Filled, filled-reading, fill}
 
 -- a tree of the symbol X stands in a reading of the start part: before it the first k words, and its items are used
@@ -32,14 +32,14 @@ record Placed (g : Grammar) (ws : List Word) (k X : ℕ) (t : Tree g X) : Type 0
 abbrev Context : Grammar → List Word → ℕ → ℕ → Type 0
 Context g ws k X = (t : Tree g X) → Placed g ws k X t
 
-module _ (g : Grammar) (fair : Fair g) (ws : List Word) where
+module _ (g : Grammar) (proper : Proper g) (ws : List Word) where
   -- children filled up to a reading
   filled : (r : ℕ) (ks : Children) → Fits g r ks → Filled g r ks
-  filled r ks f = fill g r (fair .trees r (fits-numbered g r ks f)) (size g r - count ks) ks f (omega (arith, fits-count g r ks f))
+  filled r ks f = fill g r (proper .trees r (fits-numbered g r ks f)) (size g r - count ks) ks f (omega (arith, fits-count g r ks f))
 
   -- the start part
   start-context : Context g ws 0 (g .start)
-  start-context (inl h) = absurd (fair .start-apart h)
+  start-context (inl h) = absurd (proper .start-apart h)
   start-context (inr t) = record {
     reading = t;
     before = [];
@@ -77,15 +77,15 @@ module _ (g : Grammar) (fair : Fair g) (ws : List Word) where
   corner-context : (k X Y : ℕ) → k ≤ length ws → Context g ws k X → Corner g X Y → Context g ws k Y
   corner-context k X _ l con self = con
   corner-context k X _ l con (down r n c) =
-      next-context r 0 k k (corner-context k X (left g r) l con c) (subst (Done g r 0) (sym (between-none ws k)) (done-none g r n)) (fair .filled r n) (omega arith) l
+      next-context r 0 k k (corner-context k X (left g r) l con c) (subst (Done g r 0) (sym (between-none ws k)) (done-none g r n)) (proper .filled r n) (omega arith) l
 
   -- what may start after word k stands there, and so does the left side of an item's rule where the item starts
   mutual
     wanted-context : (k Y : ℕ) → Wanted g ws k Y → Context g ws k Y
     wanted-context _ _ (first Y c) = corner-context 0 (g .start) Y (omega arith) start-context c
     wanted-context _ _ (next r d i k Y h l c) =
-        let b = held-bounds g ws (fair .filled) r d i k h in
-        corner-context k (symbol g r d) Y (b .ends) (next-context r d i k (held-context r d i k h) (held-done g fair ws r d i k h) l (omega (arith, b .forward)) (b .ends)) c
+        let b = held-bounds g ws (proper .filled) r d i k h in
+        corner-context k (symbol g r d) Y (b .ends) (next-context r d i k (held-context r d i k h) (held-done g proper ws r d i k h) l (omega (arith, b .forward)) (b .ends)) c
 
     held-context : (r d i k : ℕ) → Held g ws r d i k → Context g ws i (left g r)
     held-context _ _ _ _ (begin r i k n w s) = wanted-context i (left g r) w
@@ -105,8 +105,8 @@ module _ (g : Grammar) (fair : Fair g) (ws : List Word) where
   -- a held item is used by a programme that begins with the words up to its end
   pub held-used : (r d i k : ℕ) → Held g ws r d i k → Used g (take k ws) (item r d i k)
   held-used r d i k h =
-      let b = held-bounds g ws (fair .filled) r d i k h in
-      let done = held-done g fair ws r d i k h in
+      let b = held-bounds g ws (proper .filled) r d i k h in
+      let done = held-done g proper ws r d i k h in
       let ks = done .children in
       let all = filled r ks (done .fits) in
       let p = held-context r d i k h (inr (filled-reading g r ks all)) in

@@ -14,18 +14,18 @@ use Rattle.language.specs.Choice.{Covers}
 use Rattle.language.proofs.Words.{is-append, single-is, matched-inside}
 use Rattle.language.proofs.Columns.Bounds.{Within, held-bounds, spans-within}
 use Rattle.language.proofs.Chart.Between.{between-none, between-one, between-join}
-use Rattle.language.proofs.Chart.Fair.{Fair}
+use Rattle.language.proofs.Chart.Proper.{Proper}
 use Rattle.language.proofs.Chart.Turned.{Tree, leaves, push, push-fits, push-count, push-yield}
 
 module _ (g : Grammar) where
   -- a symbol that reads words has a tree that does
-  pub record Grown (X : ℕ) (vs : List Word) : Type 0 where
+  pub record TreeOver (X : ℕ) (vs : List Word) : Type 0 where
     pub tree : Tree g X
     pub is : Is (leaves g X tree) vs
 
-  pub covers-grown : (X : ℕ) (vs : List Word) → Covers g X vs → Grown X vs
-  covers-grown X _ (Covers.word w h m) = record { tree = inl h; is = single-is X w m }
-  covers-grown X _ (Covers.reading vs h) = record { tree = inr (h .reading); is = h .is }
+  pub covers-tree : (X : ℕ) (vs : List Word) → Covers g X vs → TreeOver X vs
+  covers-tree X _ (Covers.word w h m) = record { tree = inl h; is = single-is X w m }
+  covers-tree X _ (Covers.reading vs h) = record { tree = inr (h .reading); is = h .is }
 
   -- no symbol done
   pub done-none : (r : ℕ) → Numbered g r → Done g r 0 []
@@ -35,7 +35,7 @@ module _ (g : Grammar) where
   done-more : (r d : ℕ) (us vs : List Word) → Done g r d us → d < size g r → Covers g (symbol g r d) vs → Done g r (suc d) (us ++ vs)
   done-more r d us vs h l c =
       let X = symbol g r d in
-      let t = covers-grown X vs c in
+      let t = covers-tree X vs c in
       record {
         children = push g X (h .children) (t .tree);
         fits = push-fits g X r (h .children) (t .tree) (h .fits) (omega (arith, h .many)) (ap (symbol g r) (h .many));
@@ -50,7 +50,7 @@ module _ (g : Grammar) where
     is = h .is;
   }
 
-module _ (g : Grammar) (fair : Fair g) (ws : List Word) where
+module _ (g : Grammar) (proper : Proper g) (ws : List Word) where
   word-covers : (c j : ℕ) → Key g c → T (getD ws j blank c) → Covers g c (between j (suc j) ws)
   word-covers c j h m = subst (Covers g c) (sym (between-one ws j (matched-inside ws j c m))) (Covers.word (getD ws j blank) h m)
 
@@ -58,17 +58,17 @@ module _ (g : Grammar) (fair : Fair g) (ws : List Word) where
   joined r d i j k h f l b c = subst (Done g r (suc d)) (between-join ws i j k f (omega (arith, b .forward))) (done-more g r d (between i j ws) (between j k ws) h l c)
 
   spanned : (X j k : ℕ) → Spans g ws X j k → Within ws j k
-  spanned = spans-within g ws (fair .filled)
+  spanned = spans-within g ws (proper .filled)
 
   mutual
     -- the symbols done of an item read the words between
     pub held-done : (r d i k : ℕ) → Held g ws r d i k → Done g r d (between i k ws)
     held-done _ _ _ _ (begin r i k n w s) =
         let X = symbol g r 0 in
-        joined r 0 i i k (subst (Done g r 0) (sym (between-none ws i)) (done-none g r n)) (omega arith) (fair .filled r n) (spanned X i k s) (spans-covers X i k s)
+        joined r 0 i i k (subst (Done g r 0) (sym (between-none ws i)) (done-none g r n)) (omega arith) (proper .filled r n) (spanned X i k s) (spans-covers X i k s)
     held-done _ _ _ _ (advance r d i j k h l s) =
         let X = symbol g r d in
-        let b = held-bounds g ws (fair .filled) r d i j h in
+        let b = held-bounds g ws (proper .filled) r d i j h in
         joined r d i j k (held-done r d i j h) (omega (arith, b .forward)) l (spanned X j k s) (spans-covers X j k s)
 
     -- a symbol reads the words between that it spans

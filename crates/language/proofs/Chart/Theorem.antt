@@ -17,7 +17,7 @@ use Rattle.language.proofs.Chart.Between.{between-first, between-all}
 use Rattle.language.proofs.Chart.Context.{held-used, wanted-begun}
 use Rattle.language.proofs.Chart.Done.{held-done, done-reads}
 use Rattle.language.proofs.Columns.Bounds.{held-bounds}
-use Rattle.language.proofs.Chart.Fair.{Fair, sound-fair}
+use Rattle.language.proofs.Chart.Proper.{Proper, sound-proper}
 use Rattle.language.proofs.Chart.Local.{reads-held, held-locally}
 use Rattle.language.proofs.Chart.Used.{uses-held, key-wanted}
 
@@ -28,7 +28,7 @@ begins-key [] (w ∷ ws) c b = absurd b
 begins-key (x ∷ p) [] c b = (omega arith, eqb→eq x c (b .0))
 begins-key (x ∷ p) (w ∷ ws) c b = let rest = begins-key p ws c (b .1) in (omega (arith, rest .0), rest .1)
 
-module _ (g : Grammar) (fair : Fair g) (ws : List Word) where
+module _ (g : Grammar) (proper : Proper g) (ws : List Word) where
   -- the start part may start after no word
   start-wanted : (r : ℕ) → left g r ≡ g .start → Wanted g ws 0 (left g r)
   start-wanted r e = first (left g r) (subst (Corner g (g .start)) (sym e) self)
@@ -41,7 +41,7 @@ module _ (g : Grammar) (fair : Fair g) (ws : List Word) where
   used-held r d i k short u =
       let t = u .reading in
       let b = begins-between (yield (t .children)) k (u .begins) in
-      uses-held g fair ws k short (t .by) 0 (t .children) [] (start-wanted (t .by) (t .heads)) (t .fits) b (item r d i k) (u .uses) (omega arith)
+      uses-held g proper ws k short (t .by) 0 (t .children) [] (start-wanted (t .by) (t .heads)) (t .fits) b (item r d i k) (u .uses) (omega arith)
 
   begun-wanted : (c : ℕ) → Begun g (ws ++ (only c ∷ [])) → Wanted g ws (length ws) c
   begun-wanted c h =
@@ -51,7 +51,7 @@ module _ (g : Grammar) (fair : Fair g) (ws : List Word) where
       let last = begins-key p ws c (h .begins) in
       let b = subst (Begins p) (take-append-seam ws (only c ∷ []) ∙ sym (take-length ws)) (begins-take p (ws ++ (only c ∷ [])) n (h .begins)) in
       let e : n - 0 ≡ n = omega arith in
-      let w = key-wanted g fair ws n (omega arith) (t .by) 0 (t .children) [] (start-wanted (t .by) (t .heads)) (t .fits) (begins-between p n b) (omega arith) (omega (arith, last .0)) in
+      let w = key-wanted g proper ws n (omega arith) (t .by) 0 (t .children) [] (start-wanted (t .by) (t .heads)) (t .fits) (begins-between p n b) (omega arith) (omega (arith, last .0)) in
       subst (Wanted g ws n) (ap (λ m. getD p m 0) e ∙ last .1) w
 
   begun-key : (c : ℕ) → Begun g (ws ++ (only c ∷ [])) → Key g c
@@ -62,7 +62,7 @@ module _ (g : Grammar) (fair : Fair g) (ws : List Word) where
 
   whole-programme : Whole g ws → Programme g ws
   whole-programme h =
-      let done = held-done g fair ws (h .by) (size g (h .by)) 0 (length ws) (h .held) in
+      let done = held-done g proper ws (h .by) (size g (h .by)) 0 (length ws) (h .held) in
       subst₂ (Reads g) (h .heads) (between-all ws) (done-reads g (h .by) (between 0 (length ws) ws) done)
 
   programme-whole : Programme g ws → Whole g ws
@@ -71,18 +71,18 @@ module _ (g : Grammar) (fair : Fair g) (ws : List Word) where
       record {
         by = h .reading .by;
         heads = h .reading .heads;
-        held = reads-held g fair ws (g .start) 0 (length ws) (first (g .start) self) (record { reading = h .reading; is = reads }) (omega arith);
+        held = reads-held g proper ws (g .start) 0 (length ws) (first (g .start) self) (record { reading = h .reading; is = reads }) (omega arith);
       }
 
   -- the chart is what the theorem says of it
   pub chart-is : ChartIs g ws
   chart-is = record {
-    items = λ r d i k. ((λ h. (held-bounds g ws (fair .filled) r d i k h .ends, held-used g fair ws r d i k h)), (λ h. used-held r d i k (h .0) (h .1)));
-    lit = λ c. ((λ h. wanted-begun g fair ws c (h .key) (h .wanted)), (λ h. record { key = begun-key c h; wanted = begun-wanted c h }));
+    items = λ r d i k. ((λ h. (held-bounds g ws (proper .filled) r d i k h .ends, held-used g proper ws r d i k h)), (λ h. used-held r d i k (h .0) (h .1)));
+    lit = λ c. ((λ h. wanted-begun g proper ws c (h .key) (h .wanted)), (λ h. record { key = begun-key c h; wanted = begun-wanted c h }));
     whole = (whole-programme, programme-whole);
-    spans = held-locally g fair ws;
+    spans = held-locally g proper ws;
   }
 
 -- the theorem, for every sound book
 pub chart-theorem : ChartTheorem
-chart-theorem m sound ws = chart-is (m .grammar) (sound-fair m sound) ws
+chart-theorem m sound ws = chart-is (m .grammar) (sound-proper m sound) ws

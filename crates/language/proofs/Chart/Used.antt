@@ -10,11 +10,11 @@ use Rattle.std.proofs.shelf.Tests.{cases-lt}
 use Rattle.language.specs.Book.{Grammar, left, size, symbol}
 use Rattle.language.specs.Words.{Word, Begins, between}
 use Rattle.language.specs.Readings.{Children, none, key, part, yield, count, Fits, Item, reached, Uses}
-use Rattle.language.specs.Chart.{Wanted, Held}
+use Rattle.language.specs.Chart.{Wanted, HeldItem}
 use Rattle.language.proofs.Words.{begins-assoc}
 use Rattle.language.proofs.Chart.Between.{begins-next}
-use Rattle.language.proofs.Chart.Complete.{stood-wanted, stood-held, children-stood}
-use Rattle.language.proofs.Chart.Fair.{Fair}
+use Rattle.language.proofs.Chart.Complete.{dotted-wanted, dotted-held, children-dotted}
+use Rattle.language.proofs.Chart.Proper.{Proper}
 use Rattle.language.proofs.Fits.{fits-numbered}
 
 -- items that children use end where the children start or later
@@ -26,27 +26,23 @@ uses-after r i (part ks s cs) u (inl w) = uses-after r i ks u w
 uses-after r i (part ks s cs) u (inr (inl w)) = omega (arith, uses-after s (i + length (yield ks)) cs u w)
 uses-after r i (part ks s cs) u (inr (inr e)) = omega (arith, ap (λ t. t .end) e)
 
--- the item is held
-abbrev Holds : Grammar → List Word → Item → Type 0
-Holds g ws u = Held g ws (u .rule) (u .done) (u .start) (u .end)
-
 -- children of a rule that may start after word i, whose keys, and then others, begin with the words up to k
-module _ (g : Grammar) (fair : Fair g) (ws : List Word) (k : ℕ) (short : k ≤ length ws) where
+module _ (g : Grammar) (proper : Proper g) (ws : List Word) (k : ℕ) (short : k ≤ length ws) where
   last-held : (r i : ℕ) (ks : Children) (rest : List ℕ) → Wanted g ws i (left g r) → Fits g r ks → Begins (yield ks ++ rest) (between i k ws)
-      → 1 ≤ count ks → (u : Item) → u ≡ reached r i ks → u .end ≤ k → Holds g ws u
-  last-held r i ks rest w f b some u e l = subst (Holds g ws) (sym e)
-      (stood-held g ws r (count ks) i (i + length (yield ks)) (children-stood g fair ws k short r i ks rest w f b (omega (arith, ap (λ t. t .end) e))) some)
+      → 1 ≤ count ks → (u : Item) → u ≡ reached r i ks → u .end ≤ k → HeldItem g ws u
+  last-held r i ks rest w f b some u e l = subst (HeldItem g ws) (sym e)
+      (dotted-held g ws r (count ks) i (i + length (yield ks)) (children-dotted g proper ws k short r i ks rest w f b (omega (arith, ap (λ t. t .end) e))) some)
 
   -- the symbol behind children may start where they end
   pub behind-wanted : (r i X : ℕ) (ks : Children) (rest : List ℕ) → Wanted g ws i (left g r) → Fits g r ks → Begins (yield ks ++ rest) (between i k ws)
       → i + length (yield ks) ≤ k → count ks < size g r → symbol g r (count ks) ≡ X → Wanted g ws (i + length (yield ks)) X
   behind-wanted r i X ks rest w f b near l e =
       let j = i + length (yield ks) in
-      stood-wanted g ws r (count ks) i j X (fits-numbered g r ks f) (children-stood g fair ws k short r i ks rest w f b near) l e
+      dotted-wanted g ws r (count ks) i j X (fits-numbered g r ks f) (children-dotted g proper ws k short r i ks rest w f b near) l e
 
   -- the items that they use and that end at word k or before are held
   pub uses-held : (r i : ℕ) (ks : Children) (rest : List ℕ) → Wanted g ws i (left g r) → Fits g r ks → Begins (yield ks ++ rest) (between i k ws)
-      → (u : Item) → Uses r i ks u → u .end ≤ k → Holds g ws u
+      → (u : Item) → Uses r i ks u → u .end ≤ k → HeldItem g ws u
   uses-held r i none rest w f b u v l = absurd v
   uses-held r i (key ks c) rest w f b u (inl v) l = uses-held r i ks (c ∷ rest) w (f .0) (begins-assoc (yield ks) (c ∷ []) rest (between i k ws) b) u v l
   uses-held r i (key ks c) rest w f b u (inr e) l = last-held r i (key ks c) rest w f b (omega arith) u e l

@@ -1,20 +1,22 @@
 -- How many items there can be: every place that an item may have, listed.
 use mathlib.Core.Path.{_≡_, refl, sym, ap, subst, _∙_}
-use mathlib.Core.Logic.{inl, inr, ⊎-elim}
+use mathlib.Core.Logic.{⊎-elim}
 use mathlib.Core.List.{List, [], _∷_, _++_}
 use Prim.Native.Nat.{ℕ, zero, suc, _+_, _*_, _/_, _<_, _≤_}
 use native.Mathlib.Numerals.{add-one}
 use native.Mathlib.Nat.{mul-suc, suc-mul, mul-add}
 use native.Mathlib.Omega.{arith}
 use lib.ListN.{length, getD, length-append}
+use Rattle.std.specs.shelf.Lists.{All}
 use Rattle.std.proofs.shelf.Tests.{cases-order}
 use Rattle.language.specs.Book.{Rule, Grammar, norule, rule}
 use Rattle.language.specs.Words.{Word}
 use Rattle.language.specs.Readings.{Item, item}
-use Rattle.language.specs.Chart.{Held}
-use Rattle.language.specs.Columns.{InBounds, lengths, AllHeld, Among, Apart}
+use Rattle.language.specs.Chart.{Held, HeldItem}
+use Rattle.language.specs.Columns.{InBounds, lengths, Among, Apart}
 use Rattle.language.proofs.Told.{rule-place}
-use Rattle.language.proofs.Pigeonhole.{no-more, among-front, among-back, upto, upto-length, upto-among}
+use Rattle.language.proofs.Pigeonhole.{no-more}
+use Rattle.language.proofs.Members.{all-among, among-front, among-back, upto, upto-length, upto-among}
 
 -- for rules numbered from q: the items told by f at each rule and each number of its symbols
 dots : (ℕ → ℕ → Item) → ℕ → List Rule → List Item
@@ -95,11 +97,9 @@ module _ (g : Grammar) (ws : List Word) (bounds : (r d i k : ℕ) → Held g ws 
       (starts-among (g .rules) (suc r) d i k k (b .forward)
       (dots-among (λ s e. item s e i k) 1 (g .rules) r (suc r) d (omega arith) (b .rule .high) (b .some-done) long))
 
-  all-placed : (ts : List Item) → AllHeld g ws ts → (t : Item) → Among t ts → Among t (columns (g .rules) (length ws))
-  all-placed [] a t m = absurd m
-  all-placed (u ∷ ts) a t (inl e) = subst (λ x. Among x (columns (g .rules) (length ws))) (sym e) (place-of (u .rule) (u .done) (u .start) (u .end) (bounds (u .rule) (u .done) (u .start) (u .end) (a .0)))
-  all-placed (u ∷ ts) a t (inr m) = all-placed ts (a .1) t m
+  all-placed : (ts : List Item) → All (HeldItem g ws) ts → (t : Item) → Among t ts → Among t (columns (g .rules) (length ws))
+  all-placed ts a t m = place-of (t .rule) (t .done) (t .start) (t .end) (bounds (t .rule) (t .done) (t .start) (t .end) (all-among (HeldItem g ws) ts t a m))
 
   -- at most L n (n + 1) / 2 items over n words
-  pub few-items : (ts : List Item) → AllHeld g ws ts → Apart ts → length ts ≤ lengths (g .rules) * (length ws * (length ws + 1) / 2)
+  pub few-items : (ts : List Item) → All (HeldItem g ws) ts → Apart ts → length ts ≤ lengths (g .rules) * (length ws * (length ws + 1) / 2)
   few-items ts a p = subst (λ x. length ts ≤ x) (columns-length (g .rules) (length ws)) (no-more ts (columns (g .rules) (length ws)) p (all-placed ts a))

@@ -19,7 +19,7 @@ use Rattle.language.specs.Machine.{Entry, word, done, Awaited, next, end, Stat
 use Rattle.language.specs.Moves.{inner, moves, RunTheorem}
 use Rattle.language.proofs.Fits.{fits-count}
 use Rattle.language.proofs.Chart.Turned.{Tree, leaves, push, push-count}
-use Rattle.language.proofs.Chart.Fair.{Fair, sound-fair}
+use Rattle.language.proofs.Chart.Proper.{Proper, sound-proper}
 use Rattle.language.proofs.Moves.Allowed.{Ends, refused, some-first, some-second, end-blocked, empty-blocked, only-move, take-cases}
 use Rattle.language.proofs.Moves.Frames.{tree-moves, behind-later, Frame, awaited, later, lefts, read, made, Before, Found, Partly, word-found, done-found, pushed}
 
@@ -32,7 +32,7 @@ abbrev inside : (g : Grammar) → ℕ → List ℕ → List Word → List (Frame
 inside g r cs us fs = stacks (map word us) (map next cs ++ (end ∷ pending g fs)) (left g r ∷ lefts g fs)
 
 -- the moves ms on the words ws
-module _ (g : Grammar) (fair : Fair g) (ws : List Word) (ms : List ℕ) where
+module _ (g : Grammar) (proper : Proper g) (ws : List Word) (ms : List ℕ) where
   -- they are those of a reading
   abbrev Result : Type 0
   Result = (t : Programme g ws) × (moves (t .reading .by) (t .reading .children) ≡ ms)
@@ -61,7 +61,7 @@ module _ (g : Grammar) (fair : Fair g) (ws : List Word) (ms : List ℕ) where
   -- a tree of the start part over all words is a reading of them
   whole : (us : List Word) (ns : List ℕ) (t : Tree g (g .start)) → Before ws (leaves g (g .start) t) us → ms ≡ tree-moves g (g .start) t ++ (129 ∷ ns)
       → (us ≡ []) × (ns ≡ []) → Result
-  whole us ns (inl k) b e h = absurd (fair .start-apart k)
+  whole us ns (inl k) b e h = absurd (proper .start-apart k)
   whole us ns (inr t) b e h =
       let p = yield (t .children) in
       let is : Is (p ++ []) ws = b [] (subst (Is []) (sym (h .0)) (record { begins = tt; long = refl })) in
@@ -88,7 +88,7 @@ module _ (g : Grammar) (fair : Fair g) (ws : List Word) (ms : List ℕ) where
   reduced n q us fs going numbered found h =
       let X = symbol g n 0 in
       let t = found .tree in
-      going n 1 (push g X none t) us fs (pushed g ws ms n n X none us fs q t numbered (fair .filled n numbered) refl refl (found .words) (found .is))
+      going n 1 (push g X none t) us fs (pushed g ws ms n n X none us fs q t numbered (proper .filled n numbered) refl refl (found .words) (found .is))
       (sym (push-count g X none t)) h
 
   taking-none : Taking []
@@ -137,4 +137,4 @@ module _ (g : Grammar) (fair : Fair g) (ws : List Word) (ms : List ℕ) where
 
 -- a complete run on words is the moves of a reading of them
 pub run-theorem : RunTheorem
-run-theorem m sound ws ns = complete-run (m .grammar) (sound-fair m sound) ws ns
+run-theorem m sound ws ns = complete-run (m .grammar) (sound-proper m sound) ws ns

@@ -16,7 +16,8 @@ use Rattle.language.specs.Readings.{Children, none, key, part, yield, count, F
 use Rattle.language.specs.Columns.{Among, Apart}
 use Rattle.language.specs.Moves.{below}
 use Rattle.language.proofs.Fits.{fits-numbered, no-children}
-use Rattle.language.proofs.Pigeonhole.{no-more, upto, upto-length, upto-among}
+use Rattle.language.proofs.Pigeonhole.{no-more}
+use Rattle.language.proofs.Members.{upto, upto-length, upto-among}
 
 -- a part that is turned into X alone
 record Above (g : Grammar) (X Y : ℕ) : Type 0 where

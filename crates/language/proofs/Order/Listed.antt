@@ -1,10 +1,12 @@
 -- Properties whose examples can be listed, and the least of those examples.
-use mathlib.Core.Path.{_≡_, refl, sym, ap, subst}
+use mathlib.Core.Path.{_≡_, refl, sym, subst}
 use mathlib.Core.Logic.{_⊎_, inl, inr, ⊎-elim}
-use mathlib.Core.List.{List, [], _∷_, _++_, map, List·Memᴰ, List·Memᴰ·head, List·Memᴰ·tail, List·Memᴰ·not-nil, List·Memᴰ·cases-cons, Memᴰ·append-left, Memᴰ·append-right, Memᴰ·map, Memᴰ·cast}
+use mathlib.Core.List.{List, [], _∷_, _++_, map}
 use Prim.Native.Nat.{ℕ, zero, suc, _<_}
 use native.Mathlib.Omega.{arith}
 use Rattle.std.specs.Joined.{joined}
+use Rattle.language.specs.Columns.{Among}
+use Rattle.language.proofs.Members.{among-front, among-back, among-map}
 use Rattle.std.specs.shelf.Lists.{All}
 use Rattle.std.proofs.shelf.Elements.{all-append, all-map, all-weaker}
 use Rattle.std.proofs.shelf.Tests.{cases-lt}
@@ -13,7 +15,7 @@ use Rattle.std.proofs.shelf.Tests.{cases-lt}
 pub record Listed {A : Type 0} (P : A → Type 0) : Type 0 where
   pub list : List A
   pub each : All P list
-  pub every : (a : A) → P a → List·Memᴰ a list
+  pub every : (a : A) → P a → Among a list
 
 -- nothing has the property
 pub listed-none : {A : Type 0} (P : A → Type 0) → ((a : A) → P a → ⊥) → Listed P
@@ -21,7 +23,7 @@ listed-none P never = record { list = []; each = tt; every = λ a p. absurd (nev
 
 -- one thing has it
 pub listed-one : {A : Type 0} (x : A) → Listed (λ a. a ≡ x)
-listed-one x = record { list = x ∷ []; each = (refl, tt); every = λ a e. List·Memᴰ·head e }
+listed-one x = record { list = x ∷ []; each = (refl, tt); every = λ a e. inl e }
 
 -- the same property said otherwise
 pub listed-same : {A : Type 0} (P Q : A → Type 0) → ((a : A) → P a → Q a) → ((a : A) → Q a → P a) → Listed P → Listed Q
@@ -32,7 +34,7 @@ pub listed-or : {A : Type 0} (P Q : A → Type 0) → Listed P → Listed Q → 
 listed-or P Q l k = record {
   list = l .list ++ k .list;
   each = all-append (λ a. P a ⊎ Q a) (l .list) (k .list) (all-weaker P (λ a. P a ⊎ Q a) (λ a p. inl p) (l .list) (l .each)) (all-weaker Q (λ a. P a ⊎ Q a) (λ a q. inr q) (k .list) (k .each));
-  every = λ a o. ⊎-elim (λ p. Memᴰ·append-left (k .list) (l .every a p)) (λ q. Memᴰ·append-right (l .list) (k .every a q)) o;
+  every = λ a o. ⊎-elim (λ p. among-front a (l .list) (k .list) (l .every a p)) (λ q. among-back a (l .list) (k .list) (k .every a q)) o;
 }
 
 -- a property under a condition that is decided
@@ -69,16 +71,19 @@ module _ {A B C : Type 0} (f : A → B → C) (P : A → Type 0) (Q : B → Type
       (all-map Made (f x) ys (all-weaker Q (λ b. Made (f x b)) (λ b q. (x, b, ps .0, q, refl)) ys qs))
       (made-each xs ys (ps .1) qs)
 
-  made-every : {a : A} {b : B} {xs : List A} (ys : List B) → List·Memᴰ a xs → List·Memᴰ b ys → List·Memᴰ (f a b) (joined (λ x. map (f x) ys) xs)
-  made-every {a} {b} ys (List·Memᴰ·head {x = x} {xs = xs} e) m = Memᴰ·append-left (joined (λ z. map (f z) ys) xs) (Memᴰ·cast (ap (λ z. f z b) e) (Memᴰ·map (f x) m))
-  made-every ys (List·Memᴰ·tail {x = x} l) m = Memᴰ·append-right (map (f x) ys) (made-every ys l m)
+  made-every : (a : A) (b : B) (xs : List A) (ys : List B) → Among a xs → Among b ys → Among (f a b) (joined (λ x. map (f x) ys) xs)
+  made-every a b [] ys l m = absurd l
+  made-every a b (x ∷ xs) ys (inl e) m =
+      let here = among-front (f x b) (map (f x) ys) (joined (λ z. map (f z) ys) xs) (among-map (f x) b ys m) in
+      subst (λ z. Among (f z b) (joined (λ y. map (f y) ys) (x ∷ xs))) (sym e) here
+  made-every a b (x ∷ xs) ys (inr l) m = among-back (f a b) (map (f x) ys) (joined (λ z. map (f z) ys) xs) (made-every a b xs ys l m)
 
   -- all that is made so
   pub listed-made : Listed P → Listed Q → Listed Made
   listed-made l k = record {
     list = joined (λ a. map (f a) (k .list)) (l .list);
     each = made-each (l .list) (k .list) (l .each) (k .each);
-    every = λ c p. Memᴰ·cast (p .4) (made-every (k .list) (l .every (p .0) (p .2)) (k .every (p .1) (p .3)));
+    every = λ c p. subst (λ x. Among x (joined (λ a. map (f a) (k .list)) (l .list))) (sym (p .4)) (made-every (p .0) (p .1) (l .list) (k .list) (l .every (p .0) (p .2)) (k .every (p .1) (p .3)));
   }
 
 -- the least example under an order that is transitive and, on the examples, total
@@ -102,8 +107,8 @@ module _ {A : Type 0} (R : A → A → Type 0) (trans : (a b c : A) → R a b �
   lower : (a b : A) → P a → P b → (c : A) × P c × NotAfter c a × NotAfter c b
   lower a b p q = ⊎-elim (λ e. (a, p, inl refl, inl e)) (⊎-elim (λ h. (a, p, inl refl, inr h)) (λ h. (b, q, inr h, inl refl))) (total a b p q)
 
-  least-among : (xs : List A) → All P xs → (a : A) → P a → LeastOf (λ b. (b ≡ a) ⊎ List·Memᴰ b xs)
-  least-among [] ps a p = record { one = a; holds = p; least = λ b o. ⊎-elim (λ e. inl (sym e)) (λ m. absurd (List·Memᴰ·not-nil m)) o }
+  least-among : (xs : List A) → All P xs → (a : A) → P a → LeastOf (λ b. (b ≡ a) ⊎ Among b xs)
+  least-among [] ps a p = record { one = a; holds = p; least = λ b o. ⊎-elim (λ e. inl (sym e)) (λ m. absurd m) o }
   least-among (x ∷ xs) ps a p =
       let (c, q, ca, cx) = lower a x p (ps .0) in
       let rest = least-among xs (ps .1) c q in
@@ -112,7 +117,7 @@ module _ {A : Type 0} (R : A → A → Type 0) (trans : (a b c : A) → R a b �
       record {
         one = rest .one;
         holds = rest .holds;
-        least = λ b o. ⊎-elim (than a b ca) (λ m. ⊎-elim (than x b cx) (λ n. rest .least b (inr n)) (List·Memᴰ·cases-cons m)) o;
+        least = λ b o. ⊎-elim (than a b ca) (λ m. ⊎-elim (than x b cx) (λ n. rest .least b (inr n)) m) o;
       }
 
   -- the least of all examples, if there is one

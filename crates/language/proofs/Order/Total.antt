@@ -11,7 +11,7 @@ use Rattle.language.specs.Sound.{Sound}
 use Rattle.language.specs.Readings.{Children, none, key, part, count, Fits}
 use Rattle.language.specs.Order.{beginnings, Earlier, Inner, Before}
 use Rattle.language.proofs.Fits.{fits-numbered}
-use Rattle.language.proofs.Chart.Fair.{left-apart}
+use Rattle.language.proofs.Chart.Proper.{left-apart}
 
 -- no key is the left side of a rule
 abbrev pub KeysApart : Grammar → Type 0

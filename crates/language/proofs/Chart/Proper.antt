@@ -8,7 +8,7 @@ use Rattle.language.specs.Readings.{Reading}
 use Rattle.language.proofs.Chart.Turned.{Tree, turned}
 
 -- a grammar whose rules are not empty, whose symbols are keys or have a reading, and whose start part is no key
-pub record Fair (g : Grammar) : Type 0 where
+pub record Proper (g : Grammar) : Type 0 where
   pub filled : (r : ℕ) → Numbered g r → 1 ≤ size g r
   pub trees : (r : ℕ) → Numbered g r → (d : ℕ) → d < size g r → Tree g (symbol g r d)
   pub start-apart : Key g (g .start) → ⊥
@@ -33,8 +33,8 @@ module _ (m : Meaning) (sound : Sound m) where
   pub symbol-tree : (r : ℕ) → Numbered (m .grammar) r → (d : ℕ) → d < size (m .grammar) r → Tree (m .grammar) (symbol (m .grammar) r d)
   symbol-tree r n d l = ⊎-elim (λ p. inr (part-reading (symbol (m .grammar) r d) p)) inl (sound .formed .rules r n .symbols d l)
 
-  pub sound-fair : Fair (m .grammar)
-  sound-fair = record {
+  pub sound-proper : Proper (m .grammar)
+  sound-proper = record {
     filled = λ r n. sound .formed .rules r n .some-symbols;
     trees = symbol-tree;
     start-apart = part-apart (m .grammar .start) (sound .formed .counts .start-part);
