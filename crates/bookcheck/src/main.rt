@@ -1,4 +1,6 @@
 // bookcheck: reads press.book, checks it, writes it back, and says what it found.
+#![tactic(auto)]
+
 use bookreport::report_of;
 use std::io::{ErrorKind, Read};
 use std::{fs, io};

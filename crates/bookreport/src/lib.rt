@@ -1,4 +1,6 @@
 // What is found in the text of a book, and how it is told to a rule writer.
+#![tactic(auto)]
+
 mod examination;
 mod reports;
 #[cfg(test)]

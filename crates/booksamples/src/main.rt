@@ -1,4 +1,6 @@
 // booksamples: tells what bookcheck says of each of many sample books, 001.book and on.
+#![tactic(auto)]
+
 use bookreport::report_of;
 use std::fs;
 use std::io::ErrorKind;

@@ -1,4 +1,6 @@
 // The text of a rule book: lines of 34 bytes that are read where they stand, and written.
+#![tactic(auto)]
+
 mod fields;
 mod lines;
 mod reads;

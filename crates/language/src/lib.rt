@@ -1,5 +1,7 @@
 // What a rule book means, and what follows from it. The definitions stand in specs/ and the proofs in proofs/; each
 // theorem is the contract of a function here, which does nothing, so that no check passes without its proof.
+#![tactic(auto)]
+
 ghost use Rattle.language.specs.Choice.{ChoiceTheorem, ItemsTheorem};
 ghost use Rattle.language.specs.Columns.{ColumnsTheorem};
 ghost use Rattle.language.specs.Corners.{CornersTheorem};

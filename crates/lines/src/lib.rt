@@ -1,4 +1,6 @@
 // Lines in which numbers stand in columns.
+#![tactic(auto)]
+
 ghost use Rattle.std.specs.Prelude.{◌≡◌, replicate, IfOk, string_bytes};
 ghost use Rattle.lines.specs.Columns.{right_in, told_fault};
 

@@ -1,4 +1,6 @@
 // Rule books: the refusals, the questions that every make of book answers, and sets of symbols.
+#![tactic(auto)]
+
 mod books;
 mod faults;
 mod presses;

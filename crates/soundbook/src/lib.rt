@@ -1,4 +1,6 @@
 // Books in fixed memory: the works book, the sound book, the check that fills it from any make of book, and left corners.
+#![tactic(auto)]
+
 mod checks;
 mod closures;
 mod copies;

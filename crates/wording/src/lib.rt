@@ -1,4 +1,6 @@
 // Words: sets of keys, whatever they are made of; and programme text, cut into its words.
+#![tactic(auto)]
+
 mod cutter;
 mod pieces;
 mod pressed;

@@ -1,5 +1,7 @@
 // wordsamples: how each of many sample programmes, 001.text and on, is cut into words, and which keys of press.book
 // each word matches.
+#![tactic(auto)]
+
 use booktext::TextBook;
 use lines::fault_line;
 use rulebook::{Book, Fault};
