@@ -37,7 +37,7 @@ fn set_field(line: &mut [u8; 34], place: u16, number: u16)
 
 // The first line.
 fn head_line<B: Book>(book: &B) -> [u8; 34]
-    ensures { result ≡ head_line (meaning book.now) }
+    ensures { result ≡ head_line (B.meaning book.now) }
 {
     let mut line = blank_line(b'H');
     set_field(&mut line, 0, book.parts());
@@ -49,7 +49,7 @@ fn head_line<B: Book>(book: &B) -> [u8; 34]
 
 // The line of a rule.
 fn rule_line<B: Book>(book: &B, rule: u16) -> [u8; 34]
-    ensures { result ≡ rule_line (meaning book.now).grammar rule }
+    ensures { result ≡ rule_line (B.meaning book.now).grammar rule }
 {
     let size = book.size(rule);
     let mut line = blank_line(b'R');
@@ -63,7 +63,7 @@ fn rule_line<B: Book>(book: &B, rule: u16) -> [u8; 34]
 
 // The line of a key.
 fn key_line<B: Book>(book: &B, key: u16) -> [u8; 34]
-    ensures { result ≡ key_line (meaning book.now).forms key }
+    ensures { result ≡ key_line (B.meaning book.now).forms key }
 {
     let mut line = blank_line(b'K');
     set_field(&mut line, 0, key);
@@ -85,9 +85,9 @@ fn set_line(space: &mut [u8], number: usize, line: &[u8; 34])
 
 // Sets the lines of the rules.
 fn set_rules<B: Book>(book: &B, space: &mut [u8])
-    requires few { length (meaning book.now).grammar.rules ≤ 128 }
-    requires room { 34 * (1 + length (meaning book.now).grammar.rules) ≤ length space.old }
-    ensures { space.new ≡ put space.old 34 (rules_text (meaning book.now)) }
+    requires few { length (B.meaning book.now).grammar.rules ≤ 128 }
+    requires room { 34 * (1 + length (B.meaning book.now).grammar.rules) ≤ length space.old }
+    ensures { space.new ≡ put space.old 34 (rules_text (B.meaning book.now)) }
 {
     for rule in 1..1 + book.rules() {
         set_line(space, rule as usize, &rule_line(book, rule));
@@ -96,9 +96,9 @@ fn set_rules<B: Book>(book: &B, space: &mut [u8])
 
 // Sets the lines of the keys.
 fn set_keys<B: Book>(book: &B, space: &mut [u8])
-    requires few { (meaning book.now).grammar.keys ≤ 32 }
-    requires room { 34 * lines_in (meaning book.now) ≤ length space.old }
-    ensures { space.new ≡ put space.old (34 * (1 + length (meaning book.now).grammar.rules)) (keys_text (meaning book.now)) }
+    requires few { (B.meaning book.now).grammar.keys ≤ 32 }
+    requires room { 34 * lines_in (B.meaning book.now) ≤ length space.old }
+    ensures { space.new ≡ put space.old (34 * (1 + length (B.meaning book.now).grammar.rules)) (keys_text (B.meaning book.now)) }
 {
     let top = 1 + book.rules() as usize;
     for place in 0..book.keys() {
@@ -108,7 +108,7 @@ fn set_keys<B: Book>(book: &B, space: &mut [u8])
 
 // How many bytes the text of a book has.
 pub fn written_len<B: Book>(book: &B) -> usize
-    ensures { result ≡ 34 * lines_in (meaning book.now) }
+    ensures { result ≡ 34 * lines_in (B.meaning book.now) }
 {
     34 * (1 + book.rules() as usize + book.keys() as usize)
 }

@@ -1,6 +1,6 @@
 // The questions that every make of book answers.
 ghost use Rattle.std.specs.Prelude.{◌≡◌, ◌+◌, ◌<◌, ◌≤◌, ◌⊎◌, length, MatchOption, slice_index, slice_index_or};
-ghost use Rattle.language.specs.Book.{Meaning, left as left_of, size as type_size, symbol as symbol_of, kind as kind_of, spelling as spelling_of};
+ghost use Rattle.language.specs.Book.{Meaning, left as left_of, size as size_of, symbol as symbol_of, kind as kind_of, spelling as spelling_of};
 
 // A make of book. No question refuses or alters anything; one outside the book is answered 0.
 pub trait Book {
@@ -30,7 +30,7 @@ pub trait Book {
 
     // The length of a rule's right side.
     fn size(&self, rule: u16) -> u16
-        ensures { result ≡ type_size (meaning self.now).grammar rule };
+        ensures { result ≡ size_of (meaning self.now).grammar rule };
 
     // The symbol at a place of a rule's right side; places count from 0.
     fn symbol(&self, rule: u16, at: u16) -> u16

@@ -15,7 +15,7 @@ use rulebook::{Book, Fault};
 
 // The table of a sound book, or the first question answered no.
 fn sound_table<B: Book>(book: &B) -> Result<Table, Fault>
-    ensures { MatchResult result (λ t. (meaning_of t ≡ meaning book.now) × Sound (meaning book.now)) (λ f. CheckRefuses (meaning book.now) f) }
+    ensures { MatchResult result (λ t. (meaning_of t ≡ B.meaning book.now) × Sound (B.meaning book.now)) (λ f. CheckRefuses (B.meaning book.now) f) }
 {
     let table = table_of(book)?;
     if let Some(part) = unproductive(&table) {
@@ -33,7 +33,7 @@ fn sound_table<B: Book>(book: &B) -> Result<Table, Fault>
 
 // The sound book that means the same as the book read, or the first question answered no.
 fn sound_book<B: Book>(book: &B) -> Result<SoundBook, Fault>
-    ensures { MatchResult result (λ s. (sound_meaning s ≡ meaning book.now) × Sound (meaning book.now)) (λ f. CheckRefuses (meaning book.now) f) }
+    ensures { MatchResult result (λ s. (sound_meaning s ≡ B.meaning book.now) × Sound (B.meaning book.now)) (λ f. CheckRefuses (B.meaning book.now) f) }
 {
     let table = sound_table(book)?;
     Ok(SoundBook { table })
@@ -41,7 +41,7 @@ fn sound_book<B: Book>(book: &B) -> Result<SoundBook, Fault>
 
 // Fills the place with a sound book that means the same as the book read; a refused check leaves the place.
 pub fn check<B: Book>(book: &B, place: &mut SoundBook) -> Result<(), Fault>
-    ensures { MatchResult result (λ _. (sound_meaning place.new ≡ meaning book.now) × Sound (meaning book.now)) (λ f. (place.new ≡ place.old) × CheckRefuses (meaning book.now) f) }
+    ensures { MatchResult result (λ _. (sound_meaning place.new ≡ B.meaning book.now) × Sound (B.meaning book.now)) (λ f. (place.new ≡ place.old) × CheckRefuses (B.meaning book.now) f) }
 {
     let sound = sound_book(book)?;
     *place = sound;

@@ -30,8 +30,8 @@ pub(super) trait Growth {
 
 // The set after one round over all rules.
 fn round<G: Growth>(growth: &G, set: &SymbolSet) -> SymbolSet
-    ensures grown { Grown (derived growth.now) set.now result }
-    ensures closed { (i : ℕ) → 1 ≤ i → i ≤ many growth.now → Closed (fires growth.now i) (added growth.now i) set.now result }
+    ensures grown { Grown (G.derived growth.now) set.now result }
+    ensures closed { (i : ℕ) → 1 ≤ i → i ≤ G.many growth.now → Closed (G.fires growth.now i) (G.added growth.now i) set.now result }
 {
     let mut next = *set;
     for place in 0..growth.count() {
@@ -42,8 +42,8 @@ fn round<G: Growth>(growth: &G, set: &SymbolSet) -> SymbolSet
 
 // The least set that holds a first set and to which no rule adds anything.
 pub(super) fn closure<G: Growth>(growth: &G, first: SymbolSet) -> SymbolSet
-    ensures grown { Grown (derived growth.now) first result }
-    ensures closed { (i : ℕ) → 1 ≤ i → i ≤ many growth.now → Closed (fires growth.now i) (added growth.now i) result result }
+    ensures grown { Grown (G.derived growth.now) first result }
+    ensures closed { (i : ℕ) → 1 ≤ i → i ≤ G.many growth.now → Closed (G.fires growth.now i) (G.added growth.now i) result result }
 {
     let mut set = first;
     loop {

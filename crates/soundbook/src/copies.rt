@@ -1,6 +1,6 @@
 // The first half of the check: a book's counts, rules and keys are asked one by one and copied to fixed memory.
 ghost use Rattle.std.specs.Prelude.{◌≡◌, ℕ, ◌+◌, ◌<◌, ◌≤◌, ◌⊎◌, length, Decides, MatchOption, MatchResult, slice_index};
-ghost use Rattle.language.specs.Book.{rule as rule_in, form as form_in, size as type_size, spelling as spelling_of};
+ghost use Rattle.language.specs.Book.{rule as rule_in, form as form_in, size as size_of, spelling as spelling_of};
 ghost use Rattle.language.specs.Sound.{CountsFit, RuleFits, Letter, FormFits, WellFormed};
 ghost use Rattle.soundbook.specs.Rows.{rule_of, form_of};
 ghost use Rattle.soundbook.specs.Tables.{meaning_of, Counted};
@@ -21,7 +21,7 @@ fn within(number: u16, least: u16, most: u16) -> bool
 
 // The counts of a book, if they are in bounds.
 fn counts_of<B: Book>(book: &B) -> Result<Counts, Fault>
-    ensures { MatchResult result (λ c. Counted (meaning book.now) c × CountsFit (meaning book.now).grammar) (λ f. (f ≡ CountsFault) × (CountsFit (meaning book.now).grammar → ⊥)) }
+    ensures { MatchResult result (λ c. Counted (B.meaning book.now) c × CountsFit (B.meaning book.now).grammar) (λ f. (f ≡ CountsFault) × (CountsFit (B.meaning book.now).grammar → ⊥)) }
 {
     let parts = book.parts();
     let keys = book.keys();
@@ -52,10 +52,10 @@ fn is_symbol(symbol: u16, counts: &Counts) -> bool
 
 // The symbols of a rule, if each is a part or a key.
 fn symbols_of<B: Book>(book: &B, rule: u16, size: u16, counts: &Counts) -> Result<[u16; 6], Fault>
-    requires counted { Counted (meaning book.now) counts.now }
-    requires sized { size ≡ type_size (meaning book.now).grammar rule }
+    requires counted { Counted (B.meaning book.now) counts.now }
+    requires sized { size ≡ size_of (B.meaning book.now).grammar rule }
     requires few { size ≤ 6 }
-    ensures { MatchResult result (λ s. SymbolsCopied (meaning book.now).grammar (rule_in (meaning book.now).grammar.rules rule) size s) (λ f. SymbolFault (meaning book.now).grammar rule (rule_in (meaning book.now).grammar.rules rule) f) }
+    ensures { MatchResult result (λ s. SymbolsCopied (B.meaning book.now).grammar (rule_in (B.meaning book.now).grammar.rules rule) size s) (λ f. SymbolFault (B.meaning book.now).grammar rule (rule_in (B.meaning book.now).grammar.rules rule) f) }
 {
     let mut symbols = [0; 6];
     for at in 0..size {
@@ -73,8 +73,8 @@ fn symbols_of<B: Book>(book: &B, rule: u16, size: u16, counts: &Counts) -> Resul
 
 // A rule, if it turns a part into 1 to 6 symbols of the book.
 fn rule_of<B: Book>(book: &B, rule: u16, counts: &Counts) -> Result<RuleRow, Fault>
-    requires { Counted (meaning book.now) counts.now }
-    ensures { MatchResult result (λ w. (rule_of w ≡ rule_in (meaning book.now).grammar.rules rule) × RuleFits (meaning book.now).grammar (rule_in (meaning book.now).grammar.rules rule)) (λ f. RuleRefused (meaning book.now).grammar rule (rule_in (meaning book.now).grammar.rules rule) f) }
+    requires { Counted (B.meaning book.now) counts.now }
+    ensures { MatchResult result (λ w. (rule_of w ≡ rule_in (B.meaning book.now).grammar.rules rule) × RuleFits (B.meaning book.now).grammar (rule_in (B.meaning book.now).grammar.rules rule)) (λ f. RuleRefused (B.meaning book.now).grammar rule (rule_in (B.meaning book.now).grammar.rules rule) f) }
 {
     let number = rule as usize;
     let left = book.left(rule);
@@ -98,9 +98,9 @@ fn rule_of<B: Book>(book: &B, rule: u16, counts: &Counts) -> Result<RuleRow, Fau
 
 // All rules of a book, if each fits.
 fn rules_of<B: Book>(book: &B, counts: &Counts) -> Result<[RuleRow; 128], Fault>
-    requires counted { Counted (meaning book.now) counts.now }
+    requires counted { Counted (B.meaning book.now) counts.now }
     requires few { counts.now.rules ≤ 128 }
-    ensures { MatchResult result (λ rows. RulesCopied (meaning book.now).grammar counts.now.rules rows) (λ f. RulesRefused (meaning book.now).grammar f) }
+    ensures { MatchResult result (λ rows. RulesCopied (B.meaning book.now).grammar counts.now.rules rows) (λ f. RulesRefused (B.meaning book.now).grammar f) }
 {
     let mut rows = [RuleRow::BLANK; 128];
     for place in 0..counts.rules {
@@ -118,9 +118,9 @@ pub fn is_letter(byte: u8) -> bool
 
 // The bytes of a key's spelling, if each is a letter.
 fn letters_of<B: Book>(book: &B, key: u16, len: u16) -> Option<[u8; 24]>
-    requires sized { len ≡ length (spelling_of (meaning book.now).forms key) }
+    requires sized { len ≡ length (spelling_of (B.meaning book.now).forms key) }
     requires few { len ≤ 24 }
-    ensures { MatchOption result (((i : ℕ) → i < len → Letter (slice_index (spelling_of (meaning book.now).forms key) i)) → ⊥) (λ s. LettersCopied (spelling_of (meaning book.now).forms key) len s) }
+    ensures { MatchOption result (((i : ℕ) → i < len → Letter (slice_index (spelling_of (B.meaning book.now).forms key) i)) → ⊥) (λ s. LettersCopied (spelling_of (B.meaning book.now).forms key) len s) }
 {
     let mut bytes = [0; 24];
     for at in 0..len {
@@ -147,7 +147,7 @@ fn length_fits(kind: u16, len: u16) -> bool
 
 // The form of a key, if its kind and its spelling go together.
 fn key_of<B: Book>(book: &B, key: u16) -> Option<KeyRow>
-    ensures { MatchOption result (FormFits (form_in (meaning book.now).forms key) → ⊥) (λ w. (form_of w ≡ form_in (meaning book.now).forms key) × FormFits (form_in (meaning book.now).forms key)) }
+    ensures { MatchOption result (FormFits (form_in (B.meaning book.now).forms key) → ⊥) (λ w. (form_of w ≡ form_in (B.meaning book.now).forms key) × FormFits (form_in (B.meaning book.now).forms key)) }
 {
     let kind = book.kind(key);
     let len = book.spelling_len(key);
@@ -160,9 +160,9 @@ fn key_of<B: Book>(book: &B, key: u16) -> Option<KeyRow>
 
 // The forms of all keys of a book, if each fits.
 fn keys_of<B: Book>(book: &B, counts: &Counts) -> Result<[KeyRow; 32], Fault>
-    requires counted { Counted (meaning book.now) counts.now }
+    requires counted { Counted (B.meaning book.now) counts.now }
     requires few { counts.now.keys ≤ 32 }
-    ensures { MatchResult result (λ rows. KeysCopied (meaning book.now) counts.now.keys rows) (λ f. KeysRefused (meaning book.now) f) }
+    ensures { MatchResult result (λ rows. KeysCopied (B.meaning book.now) counts.now.keys rows) (λ f. KeysRefused (B.meaning book.now) f) }
 {
     let mut rows = [KeyRow::BLANK; 32];
     for place in 0..counts.keys {
@@ -177,7 +177,7 @@ fn keys_of<B: Book>(book: &B, counts: &Counts) -> Result<[KeyRow; 32], Fault>
 
 // A book in fixed memory, if its counts, rules and keys are in form, asked in that order.
 pub(super) fn table_of<B: Book>(book: &B) -> Result<Table, Fault>
-    ensures { MatchResult result (λ t. (meaning_of t ≡ meaning book.now) × WellFormed (meaning book.now)) (λ f. CopyRefused (meaning book.now) f) }
+    ensures { MatchResult result (λ t. (meaning_of t ≡ B.meaning book.now) × WellFormed (B.meaning book.now)) (λ f. CopyRefused (B.meaning book.now) f) }
 {
     let counts = counts_of(book)?;
     let rules = rules_of(book, &counts)?;

@@ -10,5 +10,5 @@ set_right w n k figures blanks all f k_is b a = a ∙ (ap (λ l. l ++ figures) (
 pub returns : goal.returns
 returns c =
     IfOk-weaker c.format-2.result _ _
-    (λ s. set_right c.args.width c.args.number c.saturating-sub.result _ _ _ c.in-ok-figures.ensures.ok (c.saturating-sub.ensures ∙ ap (λ l. c.args.width - length l) c.as-str.ensures.value) c.in-ok-before.ensures)
+    (λ s. set_right c.args.width c.args.number c.saturating_sub.result _ _ _ c.in_ok-figures.ensures.ok (c.saturating_sub.ensures ∙ ap (λ l. c.args.width - length l) c.as_str.ensures.value) c.in_ok-before.ensures)
     c.format-2.ensures.ok

@@ -12,18 +12,18 @@ written_back t was is n a s =
     let all : Stands (text_meaning t) was is (length t) = subst (Stands (text_meaning t) was is) (s.count ∙ sym a.long) s in
     record { stands = all; same = all.front ∙ back_again t a.formed }
 
-pub returns-in-err-book : goal.returns-in-err-book
-returns-in-err-book c = record { trips = round_trips; found = search rules }
+pub returns-in_err-book : goal.returns-in_err-book
+returns-in_err-book c = record { trips = round_trips; found = search rules }
 
-pub returns-in-err-write : goal.returns-in-err-write
-returns-in-err-write c = record { trips = round_trips; found = search rules }
+pub returns-in_err-write : goal.returns-in_err-write
+returns-in_err-write c = record { trips = round_trips; found = search rules }
 
 pub returns : goal.returns
 returns c =
     let t = c.args.text.now in
-    let (accepted, is) = c.in-ok-book.ensures in
-    let stands = subst (λ m. Stands m c.args.space.now c.write.new.space c.in-ok-write.field-0) is c.in-ok-write.ensures in
+    let (accepted, is) = c.in_ok-book.ensures in
+    let stands = subst (λ m. Stands m c.args.space.now c.write.new.space c.in_ok-write.field-0) is c.in_ok-write.ensures in
     record {
       trips = round_trips;
-      found = (accepted, subst (λ m. Found m c.findings-of.result) is c.findings-of.ensures, written_back t c.args.space.now c.write.new.space c.in-ok-write.field-0 accepted stands);
+      found = (accepted, subst (λ m. Found m c.findings_of.result) is c.findings_of.ensures, written_back t c.args.space.now c.write.new.space c.in_ok-write.field-0 accepted stands);
     }

@@ -4,9 +4,9 @@ use Rattle.booktext.proofs.fields.number.Goals as goal
 
 pub returns : goal.returns
 returns c =
-    let a = c.in-ok-thousands.ensures in
-    let b = c.in-ok-hundreds.ensures in
-    let n = c.in-ok-tens.ensures in
+    let a = c.in_ok-thousands.ensures in
+    let b = c.in_ok-hundreds.ensures in
+    let n = c.in_ok-tens.ensures in
     let four : length c.args.field.now ≡ 4 = search rules in
     by_weaker c.figure.result
     (λ h v _ e. h v (ap (λ f. get_or f 3 0) e))

@@ -4,12 +4,12 @@ use Rattle.booktext.specs.Form.{asks_blank}
 use Rattle.booktext.proofs.Asking.{blank_yes, blank_no, loop_more, loop_stop}
 use Rattle.booktext.proofs.reads.blank_fields.Goals as goal
 
-pub returns-then-not-is-blank : goal.returns-then-not-is-blank
-returns-then-not-is-blank c =
+pub returns-then-not-is_blank : goal.returns-then-not-is_blank
+returns-then-not-is_blank c =
     loop_stop (λ k. asks_blank c.args.line k (field_of c.args.middle.now k) ∷ []) c.args.from 8 c.loop-place.place _ c.loop-place.auto.place c.loop-place-test.true c.loop-place.invariant
-    (blank_no c.args.line c.loop-place.place _ _ c.is-blank.result c.field.ensures c.if-not-is-blank.true c.is-blank.ensures)
+    (blank_no c.args.line c.loop-place.place _ _ c.is_blank.result c.field.ensures c.if-not-is_blank.true c.is_blank.ensures)
 
 pub loop-place-preserved : goal.loop-place-preserved
 loop-place-preserved c =
     loop_more (λ k. asks_blank c.args.line k (field_of c.args.middle.now k) ∷ []) c.args.from c.loop-place.place c.loop-place.auto.place c.loop-place.invariant
-    (blank_yes c.args.line c.loop-place.place _ _ c.is-blank.result c.field.ensures c.if-not-is-blank.false c.is-blank.ensures)
+    (blank_yes c.args.line c.loop-place.place _ _ c.is_blank.result c.field.ensures c.if-not-is_blank.false c.is_blank.ensures)

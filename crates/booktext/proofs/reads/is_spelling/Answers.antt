@@ -2,13 +2,13 @@ use Rattle.std.proofs.Common.{length, refl, ap, arith}
 use Rattle.booktext.proofs.Spelled.{spelled_short, spelling_decided, newline_spelled}
 use Rattle.booktext.proofs.reads.is_spelling.Goals as goal
 
-pub split-at-requires : goal.split-at-requires
-split-at-requires c = omega (arith, ap length c.spelled-spelling.ensures, spelled_short c.args.columns.now)
+pub split_at-requires : goal.split_at-requires
+split_at-requires c = omega (arith, ap length c.spelled-spelling.ensures, spelled_short c.args.columns.now)
 
 pub returns-then-not-contains : goal.returns-then-not-contains
 returns-then-not-contains c =
-    spelling_decided c.args.columns.now c.spelled-spelling.result.now _ c.is-blank.result c.spelled-spelling.ensures c.split-at.ensures.back
-    (λ k l. (c.if-not-contains.ensures.cases k 0 (omega arith) l).1) c.is-blank.ensures
+    spelling_decided c.args.columns.now c.spelled-spelling.result.now _ c.is_blank.result c.spelled-spelling.ensures c.split_at.ensures.back
+    (λ k l. (c.if-not-contains.ensures.cases k 0 (omega arith) l).1) c.is_blank.ensures
 
 pub returns-else-not-contains : goal.returns-else-not-contains
 returns-else-not-contains c =

@@ -6,24 +6,24 @@ use Rattle.booktext.proofs.Asking.{asked_err, no_at, loop_more}
 use Rattle.booktext.proofs.Meant.{text_rules, text_keys}
 use Rattle.booktext.proofs.reads.key_lines.Goals as goal
 
-pub key-line-requires : goal.key-line-requires
-key-line-requires c =
+pub key_line-requires : goal.key_line-requires
+key_line-requires c =
     let t = c.args.book.now.text.now in
     omega (arith, c.requires, c.rules-rules.ensures, c.keys-place-end.ensures.count, text_rules t, text_keys t)
 
-pub returns-in-err-key-line : goal.returns-in-err-key-line
-returns-in-err-key-line c =
+pub returns-in_err-key_line : goal.returns-in_err-key_line
+returns-in_err-key_line c =
     let t = c.args.book.now.text.now in
     let f = key_questions t (1 + number_at t 0 3) in
-    asked_err (flat_map f (range_with_len 0 (number_at t 0 1))) c.from-residual.result _ c.from-residual.ensures.1
+    asked_err (flat_map f (range_with_len 0 (number_at t 0 1))) c.from_residual.result _ c.from_residual.ensures.1
     (no_at f 0 (c.loop-place.place - 0) (number_at t 0 1) c.loop-place.place _ (omega arith) (omega (arith, c.keys-place-end.ensures.count, text_keys t)) c.loop-place.invariant
-    (subst (λ n. FirstNo (key_questions t (1 + n) c.loop-place.place) c.in-err-key-line.field-0.0) (c.rules-rules.ensures ∙ text_rules t) c.in-err-key-line.ensures))
+    (subst (λ n. FirstNo (key_questions t (1 + n) c.loop-place.place) c.in_err-key_line.field-0.0) (c.rules-rules.ensures ∙ text_rules t) c.in_err-key_line.ensures))
 
 pub loop-place-preserved : goal.loop-place-preserved
 loop-place-preserved c =
     let t = c.args.book.now.text.now in
     loop_more (key_questions t (1 + number_at t 0 3)) 0 c.loop-place.place (omega arith) c.loop-place.invariant
-    (subst (λ n. AllYes (key_questions t (1 + n) c.loop-place.place)) (c.rules-rules.ensures ∙ text_rules t) c.in-ok-key-line.ensures)
+    (subst (λ n. AllYes (key_questions t (1 + n) c.loop-place.place)) (c.rules-rules.ensures ∙ text_rules t) c.in_ok-key_line.ensures)
 
 pub returns : goal.returns
 returns c =

@@ -9,6 +9,6 @@ pub returns : goal.returns
 returns c =
     let f = field_of c.args.middle.now c.args.place in
     record {
-      asked = subst (λ r. Asked (asks_number c.args.line c.args.place f ∷ []) r) (sym c.ok-or.ensures.value) (number_asked _ _ _ f c.number.result c.field.ensures c.number.ensures);
-      is = subst (λ r. IfOk r (λ v. v ≡ value f)) (sym c.ok-or.ensures.value) (number_made _ f c.number.result _ c.field.ensures c.number.ensures);
+      asked = subst (λ r. Asked (asks_number c.args.line c.args.place f ∷ []) r) (sym c.ok_or.ensures.value) (number_asked _ _ _ f c.number.result c.field.ensures c.number.ensures);
+      is = subst (λ r. IfOk r (λ v. v ≡ value f)) (sym c.ok_or.ensures.value) (number_made _ f c.number.result _ c.field.ensures c.number.ensures);
     }

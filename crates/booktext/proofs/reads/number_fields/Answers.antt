@@ -4,11 +4,11 @@ use Rattle.booktext.specs.Form.{asks_number}
 use Rattle.booktext.proofs.Asking.{asked_err, loop_more, loop_stop}
 use Rattle.booktext.proofs.reads.number_fields.Goals as goal
 
-pub returns-in-err-number-field : goal.returns-in-err-number-field
-returns-in-err-number-field c =
-    asked_err _ c.from-residual.result _ c.from-residual.ensures.1
-    (loop_stop (λ k. asks_number c.args.line k (field_of c.args.middle.now k) ∷ []) c.args.from c.args.past c.loop-place.place _ c.loop-place.auto.place c.loop-place-test.true c.loop-place.invariant c.in-err-number-field.ensures.asked)
+pub returns-in_err-number_field : goal.returns-in_err-number_field
+returns-in_err-number_field c =
+    asked_err _ c.from_residual.result _ c.from_residual.ensures.1
+    (loop_stop (λ k. asks_number c.args.line k (field_of c.args.middle.now k) ∷ []) c.args.from c.args.past c.loop-place.place _ c.loop-place.auto.place c.loop-place-test.true c.loop-place.invariant c.in_err-number_field.ensures.asked)
 
 pub loop-place-preserved : goal.loop-place-preserved
 loop-place-preserved c =
-    loop_more (λ k. asks_number c.args.line k (field_of c.args.middle.now k) ∷ []) c.args.from c.loop-place.place c.loop-place.auto.place c.loop-place.invariant c.in-ok-number-field.ensures.asked
+    loop_more (λ k. asks_number c.args.line k (field_of c.args.middle.now k) ∷ []) c.args.from c.loop-place.place c.loop-place.auto.place c.loop-place.invariant c.in_ok-number_field.ensures.asked

@@ -5,23 +5,23 @@ use Rattle.booktext.proofs.Asking.{asked_err}
 use Rattle.booktext.proofs.Cut.{cut_length, cut_middle, line_letter, line_newline, line_fields}
 use Rattle.booktext.proofs.reads.rule_line.Goals as goal
 
-pub before-newline-requires : goal.before-newline-requires
-before-newline-requires c = cut_length c.args.text.now c.columns.result.now c.args.line c.columns.ensures c.requires
+pub before_newline-requires : goal.before_newline-requires
+before_newline-requires c = cut_length c.args.text.now c.columns.result.now c.args.line c.columns.ensures c.requires
 
-pub returns-in-err-before-newline : goal.returns-in-err-before-newline
-returns-in-err-before-newline c =
+pub returns-in_err-before_newline : goal.returns-in_err-before_newline
+returns-in_err-before_newline c =
     let t = c.args.text.now in
     let qs = rule_fields c.args.line (middle_of t c.args.line) in
     let is : get_or c.columns.result.now 0 0 ≡ 82 = search rules in
-    asked_err (marks 82 c.args.line t ++ qs) c.from-residual.result _ c.from-residual.ensures.1 (line_newline t c.columns.result.now c.args.line c.columns.ensures c.requires 82 qs _ is c.in-err-before-newline.ensures.asked)
+    asked_err (marks 82 c.args.line t ++ qs) c.from_residual.result _ c.from_residual.ensures.1 (line_newline t c.columns.result.now c.args.line c.columns.ensures c.requires 82 qs _ is c.in_err-before_newline.ensures.asked)
 
-pub returns-in-ok-before-newline : goal.returns-in-ok-before-newline
-returns-in-ok-before-newline c =
+pub returns-in_ok-before_newline : goal.returns-in_ok-before_newline
+returns-in_ok-before_newline c =
     let t = c.args.text.now in
     let cut = cut_middle t c.columns.result.now c.args.line c.columns.ensures c.requires in
     let is : get_or c.columns.result.now 0 0 ≡ 82 = search rules in
-    line_fields t c.columns.result.now c.args.line c.columns.ensures c.requires 82 (rule_fields c.args.line (middle_of t c.args.line)) c.rule-fields.result is c.in-ok-before-newline.ensures.asked
-    (subst (λ m. Asked (rule_fields c.args.line (m)) c.rule-fields.result) (c.in-ok-before-newline.ensures.is ∙ cut) c.rule-fields.ensures)
+    line_fields t c.columns.result.now c.args.line c.columns.ensures c.requires 82 (rule_fields c.args.line (middle_of t c.args.line)) c.rule_fields.result is c.in_ok-before_newline.ensures.asked
+    (subst (λ m. Asked (rule_fields c.args.line (m)) c.rule_fields.result) (c.in_ok-before_newline.ensures.is ∙ cut) c.rule_fields.ensures)
 
-pub returns-in-default : goal.returns-in-default
-returns-in-default c = line_letter c.args.text.now c.columns.result.now c.args.line c.columns.ensures c.requires 82 (rule_fields c.args.line (middle_of c.args.text.now c.args.line)) (λ e. search rules)
+pub returns-in_default : goal.returns-in_default
+returns-in_default c = line_letter c.args.text.now c.columns.result.now c.args.line c.columns.ensures c.requires 82 (rule_fields c.args.line (middle_of c.args.text.now c.args.line)) (λ e. search rules)

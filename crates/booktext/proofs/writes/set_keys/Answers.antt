@@ -11,8 +11,8 @@ pub loop-place-preserved : goal.loop-place-preserved
 loop-place-preserved g c =
     let m = g.B.Book.meaning c.args.book.now in
     let place = c.loop-place.place in
-    filled_more (key_line m.forms) (key_length m.forms) c.args.space.now c.loop-place.space c.set-line.new.space c.key-line.result (34 * (1 + length m.grammar.rules)) (34 * (1 + c.rules.result + place)) 33 place (33 + place) (place + 1)
-    c.loop-place.invariant c.set-line.ensures c.key-line.ensures refl (omega (arith, c.rules.ensures)) (omega (arith, c.requires.room, c.rules.ensures, c.keys-place-end.ensures.count)) (omega arith)
+    filled_more (key_line m.forms) (key_length m.forms) c.args.space.now c.loop-place.space c.set_line.new.space c.key_line.result (34 * (1 + length m.grammar.rules)) (34 * (1 + c.rules.result + place)) 33 place (33 + place) (place + 1)
+    c.loop-place.invariant c.set_line.ensures c.key_line.ensures refl (omega (arith, c.rules.ensures)) (omega (arith, c.requires.room, c.rules.ensures, c.keys-place-end.ensures.count)) (omega arith)
 
 pub returns : goal.returns
 unfolding keys_text

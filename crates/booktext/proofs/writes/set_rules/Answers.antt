@@ -11,8 +11,8 @@ pub loop-rule-preserved : goal.loop-rule-preserved
 loop-rule-preserved g c =
     let gr = (g.B.Book.meaning c.args.book.now).grammar in
     let rule = c.loop-rule.rule in
-    filled_more (rule_line gr) (rule_length gr) c.args.space.now c.loop-rule.space c.set-line.new.space c.rule-line.result 34 (34 * rule) 1 (rule - 1) rule (rule + 1 - 1)
-    c.loop-rule.invariant c.set-line.ensures c.rule-line.ensures (omega arith) (omega arith) (omega (arith, c.requires.room, c.rules-rule-end.ensures)) (omega arith)
+    filled_more (rule_line gr) (rule_length gr) c.args.space.now c.loop-rule.space c.set_line.new.space c.rule_line.result 34 (34 * rule) 1 (rule - 1) rule (rule + 1 - 1)
+    c.loop-rule.invariant c.set_line.ensures c.rule_line.ensures (omega arith) (omega arith) (omega (arith, c.requires.room, c.rules-rule-end.ensures)) (omega arith)
 
 pub returns : goal.returns
 unfolding rules_text

@@ -13,10 +13,10 @@ single w k = record { grammar = record { parts = 1; keys = 1; start = 1; rules =
 single_is : {w : Rule} {k : KeyForm} → w ≡ record { head = 1; body = 33 ∷ [] } → k ≡ record { kind = 0; spelling = codes "a" } → single w k ≡ smallest
 single_is r k = λ i. single (r i) (k i)
 
-pub invariant-of-result : goal.invariant-of-result
+pub invariant_of-result : goal.invariant_of-result
 unfolding meaning_of
-invariant-of-result c = (∣ subst Sound (sym (single_is c.smallest-rule.ensures c.smallest-key.ensures)) smallest_sound ∣₁, tt)
+invariant_of-result c = record { sound = ∣ subst Sound (sym (single_is c.smallest_rule.ensures c.smallest_key.ensures)) smallest_sound ∣₁ }
 
 pub returns : goal.returns
 unfolding meaning_of
-returns c = single_is c.smallest-rule.ensures c.smallest-key.ensures
+returns c = single_is c.smallest_rule.ensures c.smallest_key.ensures

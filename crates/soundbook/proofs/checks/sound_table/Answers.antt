@@ -6,29 +6,29 @@ use Rattle.soundbook.specs.Refusals.{Lowest, Refused}
 use Rattle.soundbook.proofs.Refusing.{check_refuses}
 use Rattle.soundbook.proofs.checks.sound_table.Goals as goal
 
-pub returns-in-err-table : goal.returns-in-err-table
-returns-in-err-table g c =
-    let p = err_from_is_err_and c.from-residual.result c.from-residual.ensures.1 in
-    rw (p.1, p.2) (check_refuses _ (Refused.copy c.in-err-table.ensures))
+pub returns-in_err-table : goal.returns-in_err-table
+returns-in_err-table g c =
+    let p = err_from_is_err_and c.from_residual.result c.from_residual.ensures.1 in
+    rw (p.1, p.2) (check_refuses _ (Refused.copy c.in_err-table.ensures))
 
 pub returns-in-Some : goal.returns-in-Some
 returns-in-Some g c =
-    let same = c.in-ok-table.ensures in
+    let same = c.in_ok-table.ensures in
     check_refuses _ (Refused.unproductive same.1 (subst (λ m. Lowest m.grammar (Productive m.grammar) c.in-Some.part) same.0 c.in-Some.ensures))
 
 pub returns-in-Some-cyclic : goal.returns-in-Some-cyclic
 returns-in-Some-cyclic g c =
-    let same = c.in-ok-table.ensures in
-    check_refuses _ (Refused.cyclic same.1 (subst (λ m. (X : _) → Part m.grammar X → Productive m.grammar X) same.0 c.in-default.ensures)
+    let same = c.in_ok-table.ensures in
+    check_refuses _ (Refused.cyclic same.1 (subst (λ m. (X : _) → Part m.grammar X → Productive m.grammar X) same.0 c.in_default.ensures)
     (subst (λ m. Lowest m.grammar (λ X. UnitPath m.grammar X X → ⊥) c.in-Some-cyclic.part) same.0 c.in-Some-cyclic.ensures))
 
 pub returns : goal.returns
 returns g c =
-    let same = c.in-ok-table.ensures in (
+    let same = c.in_ok-table.ensures in (
       same.0,
       record {
         formed = same.1;
-        productive = subst (λ m. (X : _) → Part m.grammar X → Productive m.grammar X) same.0 c.in-default.ensures;
-        acyclic = subst (λ m. (X : _) → Part m.grammar X → UnitPath m.grammar X X → ⊥) same.0 c.in-default-cyclic.ensures;
+        productive = subst (λ m. (X : _) → Part m.grammar X → Productive m.grammar X) same.0 c.in_default.ensures;
+        acyclic = subst (λ m. (X : _) → Part m.grammar X → UnitPath m.grammar X X → ⊥) same.0 c.in_default-cyclic.ensures;
       },
     )

@@ -3,8 +3,8 @@ use Rattle.std.proofs.lemmas.List.{length-set}
 use Rattle.soundbook.proofs.Copying.{copied_more, keys_refused}
 use Rattle.soundbook.proofs.copies.keys_of.Goals as goal
 
-pub returns-in-default : goal.returns-in-default
-returns-in-default g c = keys_refused c.requires.counted c.loop-place.invariant.1 c.loop-place-test.true c.in-default.ensures
+pub returns-in_default : goal.returns-in_default
+returns-in_default g c = keys_refused c.requires.counted c.loop-place.invariant.1 c.loop-place-test.true c.in_default.ensures
 
 pub loop-place-preserved : goal.loop-place-preserved
 loop-place-preserved g c =

@@ -9,8 +9,8 @@ loop-at-init g c = (refl, copied_none _ _ _ _ _)
 
 pub loop-at-preserved : goal.loop-at-preserved
 loop-at-preserved g c = (
-  length-set c.loop-at.bytes c.loop-at.at c.spelling-byte-byte.result ∙ c.loop-at.invariant.0,
-  copied_more _ _ _ _ _ _ _ c.loop-at.invariant.1 (omega (arith, c.loop-at.invariant.0)) c.spelling-byte-byte.ensures (subst Letter c.spelling-byte-byte.ensures (c.is-letter.ensures.0 c.if-not-is-letter.false)),
+  length-set c.loop-at.bytes c.loop-at.at c.spelling_byte-byte.result ∙ c.loop-at.invariant.0,
+  copied_more _ _ _ _ _ _ _ c.loop-at.invariant.1 (omega (arith, c.loop-at.invariant.0)) c.spelling_byte-byte.ensures (subst Letter c.spelling_byte-byte.ensures (c.is_letter.ensures.0 c.if-not-is_letter.false)),
 )
 
 pub returns : goal.returns

@@ -14,14 +14,14 @@ returns-then-size-eq0 g c = RuleRefused.empty (is_part c.requires c.within.ensur
 pub returns-then-size-gt6 : goal.returns-then-size-gt6
 returns-then-size-gt6 g c = RuleRefused.long (is_part c.requires c.within.ensures c.if-not-within.false c.left-left.ensures) (omega (arith, c.size-size.ensures))
 
-pub returns-in-err-symbols : goal.returns-in-err-symbols
-returns-in-err-symbols g c =
-    let p = err_from_is_err_and c.from-residual.result c.from-residual.ensures.1 in
-    rw (p.1, p.2) (RuleRefused.symbol (is_part c.requires c.within.ensures c.if-not-within.false c.left-left.ensures) (omega (arith, c.size-size.ensures)) (omega (arith, c.size-size.ensures)) c.in-err-symbols.ensures)
+pub returns-in_err-symbols : goal.returns-in_err-symbols
+returns-in_err-symbols g c =
+    let p = err_from_is_err_and c.from_residual.result c.from_residual.ensures.1 in
+    rw (p.1, p.2) (RuleRefused.symbol (is_part c.requires c.within.ensures c.if-not-within.false c.left-left.ensures) (omega (arith, c.size-size.ensures)) (omega (arith, c.size-size.ensures)) c.in_err-symbols.ensures)
 
 pub returns : goal.returns
 returns g c =
-    let copied = c.in-ok-symbols.ensures in
-    let same = row_is _ _ (record { left = c.left-left.result; size = c.size-size.result; symbols = c.in-ok-symbols.symbols }) c.left-left.ensures c.size-size.ensures copied in
+    let copied = c.in_ok-symbols.ensures in
+    let same = row_is _ _ (record { left = c.left-left.result; size = c.size-size.result; symbols = c.in_ok-symbols.symbols }) c.left-left.ensures c.size-size.ensures copied in
     let part = is_part c.requires c.within.ensures c.if-not-within.false c.left-left.ensures in
     (same, row_fits _ _ _ _ part c.size-size.ensures (omega arith) (omega arith) copied)

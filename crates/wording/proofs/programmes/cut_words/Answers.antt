@@ -6,20 +6,20 @@ use Rattle.wording.specs.Runs.{Longest}
 use Rattle.wording.proofs.Cutting.{shows_bytes, words_to, words_more, some_word, no_word, refused_some}
 use Rattle.wording.proofs.programmes.cut_words.Goals as goal
 
-pub returns-then-is-empty : goal.returns-then-is-empty
-returns-then-is-empty c =
-    let taken = subst (λ t. PieceTaken t c.loop-word.cutter.at c.next-piece.new.self.at c.in-Ok.word) c.loop-word.invariant.0 c.in-Ok.ensures.piece in
-    let none = sym (ap length (c.bytes.ensures ∙ shows_bytes _ _ taken.shows)) ∙ eqb-true _ 0 (sym c.if-is-empty.ensures) in
+pub returns-then-is_empty : goal.returns-then-is_empty
+returns-then-is_empty c =
+    let taken = subst (λ t. PieceTaken t c.loop-word.cutter.at c.next_piece.new.self.at c.in-Ok.word) c.loop-word.invariant.0 c.in-Ok.ensures.piece in
+    let none = sym (ap length (c.bytes.ensures ∙ shows_bytes _ _ taken.shows)) ∙ eqb-true _ 0 (sym c.if-is_empty.ensures) in
     (c.requires, subst (λ n. WordsBefore c.args.text.now n (vec_items c.loop-word.words)) (no_word _ _ _ _ taken.next none) (words_to _ _ _ _ taken.next _ c.loop-word.invariant.1))
 
 -- the word that is pushed
-taken_at : (c : goal.In-ok-push) → PieceTaken c.args.text.now c.loop-word.cutter.at c.next-piece.new.self.at c.in-Ok.word
-taken_at c = subst (λ t. PieceTaken t c.loop-word.cutter.at c.next-piece.new.self.at c.in-Ok.word) c.loop-word.invariant.0 c.in-Ok.ensures.piece
+taken_at : (c : goal.In-ok-push) → PieceTaken c.args.text.now c.loop-word.cutter.at c.next_piece.new.self.at c.in-Ok.word
+taken_at c = subst (λ t. PieceTaken t c.loop-word.cutter.at c.next_piece.new.self.at c.in-Ok.word) c.loop-word.invariant.0 c.in-Ok.ensures.piece
 
-longest_at : (c : goal.In-ok-push) → Longest c.args.text.now c.in-Ok.word.place c.next-piece.new.self.at
+longest_at : (c : goal.In-ok-push) → Longest c.args.text.now c.in-Ok.word.place c.next_piece.new.self.at
 longest_at c =
     let shown = ap length (c.bytes.ensures ∙ shows_bytes _ _ (taken_at c).shows) in
-    let apart = eqb-false _ 0 (sym c.if-is-empty.ensures) in
+    let apart = eqb-false _ 0 (sym c.if-is_empty.ensures) in
     some_word _ _ _ _ (taken_at c).next (some_bytes _ _ shown apart)
   where
     some_bytes : (a b : ℕ) → a ≡ b → (a ≡ 0 → ⊥) → 1 ≤ b
@@ -28,7 +28,7 @@ longest_at c =
 pub loop-word-preserved : goal.loop-word-preserved
 loop-word-preserved c = (
   ap (λ x. x.now) c.in-Ok.ensures.text ∙ c.loop-word.invariant.0,
-  subst (WordsBefore c.args.text.now c.next-piece.new.self.at) (sym c.in-ok-push.ensures.items)
+  subst (WordsBefore c.args.text.now c.next_piece.new.self.at) (sym c.in_ok-push.ensures.items)
       (words_more _ _ _ _ (taken_at c).next _ c.loop-word.invariant.1 (longest_at c) c.in-Ok.word refl (taken_at c).shows),
 )
 

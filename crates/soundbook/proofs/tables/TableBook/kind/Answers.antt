@@ -3,4 +3,4 @@ use Rattle.soundbook.proofs.tables.TableBook.kind.Goals as goal
 
 pub returns : goal.returns
 unfolding meaning_of
-returns c = c.key-row.ensures.kind
+returns c = c.key_row.ensures.kind

@@ -3,4 +3,4 @@ use Rattle.soundbook.proofs.tables.TableBook.left.Goals as goal
 
 pub returns : goal.returns
 unfolding meaning_of
-returns c = c.rule-row.ensures.left
+returns c = c.rule_row.ensures.left

@@ -3,4 +3,4 @@ use Rattle.soundbook.proofs.tables.TableBook.size.Goals as goal
 
 pub returns : goal.returns
 unfolding meaning_of
-returns c = c.rule-row.ensures.size
+returns c = c.rule_row.ensures.size

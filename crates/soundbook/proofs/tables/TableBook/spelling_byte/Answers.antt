@@ -4,4 +4,4 @@ use Rattle.soundbook.proofs.tables.TableBook.spelling_byte.Goals as goal
 
 pub returns : goal.returns
 unfolding meaning_of
-returns c = c.byte.ensures ∙ ap (λ l. get_or l c.args.at 0) c.key-row.ensures.spelling
+returns c = c.byte.ensures ∙ ap (λ l. get_or l c.args.at 0) c.key_row.ensures.spelling

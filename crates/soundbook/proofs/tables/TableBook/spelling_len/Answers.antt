@@ -3,4 +3,4 @@ use Rattle.soundbook.proofs.tables.TableBook.spelling_len.Goals as goal
 
 pub returns : goal.returns
 unfolding meaning_of
-returns c = c.key-row.ensures.len
+returns c = c.key_row.ensures.len

@@ -4,4 +4,4 @@ use Rattle.soundbook.proofs.tables.TableBook.symbol.Goals as goal
 
 pub returns : goal.returns
 unfolding meaning_of
-returns c = c.symbol.ensures ∙ ap (λ l. get_or l c.args.at 0) c.rule-row.ensures.body
+returns c = c.symbol.ensures ∙ ap (λ l. get_or l c.args.at 0) c.rule_row.ensures.body

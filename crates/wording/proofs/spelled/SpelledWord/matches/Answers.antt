@@ -4,6 +4,6 @@ use Rattle.wording.proofs.spelled.SpelledWord.matches.Goals as goal
 
 pub returns : goal.returns
 returns c = record {
-  set = same_from_decides _ _ c.piece-fits.ensures (piece_decides _ (few_keys _ c.args.self.now.book.now.sound) _ _);
-  rules = c.piece-fits.ensures;
+  set = same_from_decides _ _ c.piece_fits.ensures (piece_decides _ (few_keys _ c.args.self.now.book.now.sound) _ _);
+  rules = c.piece_fits.ensures;
 }
