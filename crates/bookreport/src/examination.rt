@@ -21,7 +21,7 @@ pub struct Findings {
 
 // How many symbols the right sides of all rules have.
 fn symbols_of<B: Book>(book: &B) -> usize
-    ensures { result ≡ symbols_in (meaning book.now).grammar.rules }
+    ensures { result ≡ symbols_in (B.meaning book.now).grammar.rules }
 {
     let mut symbols = 0;
     for place in 0..book.rules() {

@@ -22,7 +22,7 @@ pub struct Spelled<'t, 'b> {
 
 // Whether the spelling of a key begins with a name.
 fn begins_with<B: Book>(book: &B, key: u16, name: &[u8]) -> bool
-    ensures { Decides result ((rest : List ℕ) × (spelling_of (meaning book.now).forms key ≡ name.now ++ rest)) }
+    ensures { Decides result ((rest : List ℕ) × (spelling_of (B.meaning book.now).forms key ≡ name.now ++ rest)) }
 {
     if name.len() > book.spelling_len(key) as usize {
         return false;
@@ -37,7 +37,7 @@ fn begins_with<B: Book>(book: &B, key: u16, name: &[u8]) -> bool
 
 // Whether a name matches a key by its kind and spelling.
 fn name_matches<B: Book>(book: &B, key: u16, name: &[u8]) -> bool
-    ensures { Decides result (NameMatches name.now (form_in (meaning book.now).forms key)) }
+    ensures { Decides result (NameMatches name.now (form_in (B.meaning book.now).forms key)) }
 {
     match book.kind(key) {
         0 => name.len() == book.spelling_len(key) as usize && begins_with(book, key, name),
@@ -48,7 +48,7 @@ fn name_matches<B: Book>(book: &B, key: u16, name: &[u8]) -> bool
 
 // Whether a piece matches a key of the book.
 fn piece_fits<B: Book>(book: &B, key: u16, piece: &Piece) -> bool
-    ensures { Decides result (PieceMatches (meaning book.now) piece.now key) }
+    ensures { Decides result (PieceMatches (B.meaning book.now) piece.now key) }
 {
     if place_of(key, 33, book.keys()).is_none() {
         return false;

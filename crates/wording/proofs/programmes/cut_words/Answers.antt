@@ -13,10 +13,10 @@ returns-then-is_empty c =
     (c.requires, subst (λ n. WordsBefore c.args.text.now n (vec_items c.loop-word.words)) (no_word _ _ _ _ taken.next none) (words_to _ _ _ _ taken.next _ c.loop-word.invariant.1))
 
 -- the word that is pushed
-taken_at : (c : goal.In-ok-push) → PieceTaken c.args.text.now c.loop-word.cutter.at c.next_piece.new.self.at c.in-Ok.word
+taken_at : (c : goal.In_ok-push-in-Ok) → PieceTaken c.args.text.now c.loop-word.cutter.at c.next_piece.new.self.at c.in-Ok.word
 taken_at c = subst (λ t. PieceTaken t c.loop-word.cutter.at c.next_piece.new.self.at c.in-Ok.word) c.loop-word.invariant.0 c.in-Ok.ensures.piece
 
-longest_at : (c : goal.In-ok-push) → Longest c.args.text.now c.in-Ok.word.place c.next_piece.new.self.at
+longest_at : (c : goal.In_ok-push-in-Ok) → Longest c.args.text.now c.in-Ok.word.place c.next_piece.new.self.at
 longest_at c =
     let shown = ap length (c.bytes.ensures ∙ shows_bytes _ _ (taken_at c).shows) in
     let apart = eqb-false _ 0 (sym c.if-is_empty.ensures) in
@@ -28,7 +28,7 @@ longest_at c =
 pub loop-word-preserved : goal.loop-word-preserved
 loop-word-preserved c = (
   ap (λ x. x.now) c.in-Ok.ensures.text ∙ c.loop-word.invariant.0,
-  subst (WordsBefore c.args.text.now c.next_piece.new.self.at) (sym c.in_ok-push.ensures.items)
+  subst (WordsBefore c.args.text.now c.next_piece.new.self.at) (sym c.in_ok-push-in-Ok.ensures.items)
       (words_more _ _ _ _ (taken_at c).next _ c.loop-word.invariant.1 (longest_at c) c.in-Ok.word refl (taken_at c).shows),
 )
 
