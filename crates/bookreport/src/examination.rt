@@ -1,9 +1,9 @@
 // A text is read, its book checked and written back.
-ghost use Rattle.std.specs.Prelude.{◌≡◌, ◌*◌, ◌<◌, ◌⊎◌, length, MatchResult};
+ghost use Rattle.std.specs.Prelude.{◌≡◌, ◌*◌, ◌<◌, ◌⊎◌, length, Decides, IsTrue, IfOk, IfErr, MatchResult};
 ghost use Rattle.soundbook.specs.Sounds.{sound_meaning};
 ghost use Rattle.booktext.specs.Text.{text_meaning};
-ghost use Rattle.booktext.specs.Written.{lines_in};
-ghost use Rattle.bookreport.specs.Findings.{symbols_in, Accepted, TextRefused, RoundTrips, Found, WrittenBack};
+ghost use Rattle.booktext.specs.Written.{lines_in, Stands};
+ghost use Rattle.bookreport.specs.Findings.{symbols_in, Accepted, TextRefused, RefusedAlone, RoundTrips, CountsFound, Found, WrittenBack};
 
 use booktext::{TextBook, write};
 use rulebook::{Book, Fault};
@@ -17,6 +17,8 @@ pub struct Findings {
     pub start: u16,
     pub rules: u16,
     pub symbols: usize,
+    // written back byte for byte
+    pub same: bool,
 }
 
 // How many symbols the right sides of all rules have.
@@ -32,7 +34,7 @@ fn symbols_of<B: Book>(book: &B) -> usize
 
 // The sound book of a text, or the first question answered no: those of the text, then those of the book.
 fn sound_book(text: &[u8]) -> Result<SoundBook, Fault>
-    ensures { MatchResult result (λ s. Accepted text.now × (sound_meaning s ≡ text_meaning text.now)) (λ f. TextRefused text.now f) }
+    ensures { MatchResult result (λ s. Accepted text.now × (sound_meaning s ≡ text_meaning text.now)) (λ f. RefusedAlone text.now f) }
 {
     let book = TextBook::read(text)?;
     let mut place = smallest_book();
@@ -40,9 +42,17 @@ fn sound_book(text: &[u8]) -> Result<SoundBook, Fault>
     Ok(place)
 }
 
-// The findings in a book.
-fn findings_of(book: &SoundBook) -> Findings
-    ensures { Found (sound_meaning book.now) result }
+// Whether two texts are the same bytes.
+fn is_same(one: &[u8], other: &[u8]) -> bool
+    ensures { Decides result (one.now ≡ other.now) }
+{
+    one == other
+}
+
+// The findings in a book that was written back as it was read, or not.
+fn findings_of(book: &SoundBook, same: bool) -> Findings
+    ensures counts { CountsFound (sound_meaning book.now) result }
+    ensures back { result.same ≡ same }
 {
     Findings {
         parts: book.parts(),
@@ -50,15 +60,19 @@ fn findings_of(book: &SoundBook) -> Findings
         start: book.start(),
         rules: book.rules(),
         symbols: symbols_of(book),
+        same,
     }
 }
 
 // What is found in a text; the space is where its book is written back.
 pub fn examine(text: &[u8], space: &mut [u8]) -> Result<Findings, Fault>
+    ensures found { MatchResult result (λ d. Accepted text.now × Found text.now d × Stands (text_meaning text.now) space.old space.new (34 * lines_in (text_meaning text.now))) (λ f. (space.new ≡ space.old) × (TextRefused text.now f ⊎ ((f ≡ Fault.SpaceShort) × Accepted text.now × (length space.old < 34 * lines_in (text_meaning text.now))))) }
     ensures trips { RoundTrips }
-    ensures found { MatchResult result (λ d. Accepted text.now × Found (text_meaning text.now) d × WrittenBack text.now space.old space.new) (λ f. (space.new ≡ space.old) × (TextRefused text.now f ⊎ ((f ≡ Fault.SpaceShort) × Accepted text.now × (length space.old < 34 * lines_in (text_meaning text.now))))) }
+    ensures back { IfOk result (λ d. IsTrue d.same × WrittenBack text.now space.old space.new) }
+    ensures only { IfErr result (λ f. RefusedAlone text.now f ⊎ ((f ≡ Fault.SpaceShort) × Accepted text.now × (length space.old < 34 * lines_in (text_meaning text.now)))) }
 {
     let book = sound_book(text)?;
-    write(&book, space)?;
-    Ok(findings_of(&book))
+    let len = write(&book, space)?;
+    let same = is_same(&space[0..len], text);
+    Ok(findings_of(&book, same))
 }

@@ -1,6 +1,6 @@
 // What bookcheck says, in words that a rule writer understands.
 ghost use Rattle.std.specs.Prelude.{◌≡◌, IfOk, string_bytes};
-ghost use Rattle.bookreport.specs.Findings.{told_findings, ToldRefusal, RoundTrips, Told};
+ghost use Rattle.bookreport.specs.Findings.{told_back, told_findings, ToldRefusal, RoundTrips, Told, ToldFully};
 
 use super::examination::{Findings, examine};
 use lines::fault_line;
@@ -75,6 +75,17 @@ fn refusal(heap: Global, fault: &Fault) -> Result<String, AllocError>
     format!(in heap; "{line}{sentence}\n")
 }
 
+// How the book was written back.
+fn back_words(same: bool) -> &'static str
+    ensures { result.now ≡ told_back same }
+{
+    if same {
+        "written back byte for byte\n"
+    } else {
+        "written back otherwise than it was read\n"
+    }
+}
+
 // The findings in a sound book.
 fn acceptance(heap: Global, found: &Findings) -> Result<String, AllocError>
     ensures { IfOk result (λ s. string_bytes s ≡ told_findings found.now) }
@@ -84,15 +95,17 @@ fn acceptance(heap: Global, found: &Findings) -> Result<String, AllocError>
     let start = found.start;
     let rules = found.rules;
     let symbols = found.symbols;
+    let back = back_words(found.same);
     format!(in heap;
-        "sound book\nparts {parts}, keys {keys}, start {start}\nrules {rules}, symbols {symbols}\nwritten back byte for byte\n"
+        "sound book\nparts {parts}, keys {keys}, start {start}\nrules {rules}, symbols {symbols}\n{back}"
     )
 }
 
 // What is said of a text.
 pub fn report_of(heap: Global, text: &[u8]) -> Result<String, AllocError>
-    ensures trips { RoundTrips }
     ensures said { IfOk result (λ s. Told text.now (string_bytes s)) }
+    ensures trips { RoundTrips }
+    ensures fully { IfOk result (λ s. ToldFully text.now (string_bytes s)) }
 {
     let mut space = vec![in heap; 0u8; text.len()]?;
     match examine(text, space.as_mut_slice()) {

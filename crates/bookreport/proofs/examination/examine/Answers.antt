@@ -1,9 +1,10 @@
-use Rattle.std.proofs.Common.{ℕ, List, length, sym, ◌∙◌, subst, rules}
+use Rattle.std.proofs.Common.{◌≡◌, ℕ, ◌-◌, List, length, take, refl, sym, ap, ◌∙◌, subst, inl, arith}
+use Rattle.std.proofs.lemmas.Result.{err_from_is_err_and}
 use Rattle.booktext.specs.Text.{text_meaning}
 use Rattle.booktext.specs.Written.{Stands}
 use Rattle.booktext.proofs.Back.{back_again}
 use Rattle.bookreport.specs.Findings.{Accepted, Found, WrittenBack}
-use Rattle.bookreport.proofs.Trips.{round_trips}
+use Rattle.bookreport.proofs.Trips.{round_trips, refused_alone}
 use Rattle.bookreport.proofs.examination.examine.Goals as goal
 
 -- the text of the book of t is t
@@ -12,18 +13,26 @@ written_back t was is n a s =
     let all : Stands (text_meaning t) was is (length t) = subst (Stands (text_meaning t) was is) (s.count ∙ sym a.long) s in
     record { stands = all; same = all.front ∙ back_again t a.formed }
 
-pub returns-in_err-book : goal.returns-in_err-book
-returns-in_err-book c = record { trips = round_trips; found = search rules }
+pub returns-in_err-book-clause-found : goal.returns-in_err-book-clause-found
+returns-in_err-book-clause-found c =
+    let gave = err_from_is_err_and c.from_residual.result c.from_residual.ensures.1 in
+    rw (gave.1, gave.2) (refl, inl (refused_alone c.args.text.now c.in_err-book.field-0.0 c.in_err-book.ensures))
 
-pub returns-in_err-write : goal.returns-in_err-write
-returns-in_err-write c = record { trips = round_trips; found = search rules }
+pub returns-in_err-book-clause-trips : goal.returns-in_err-book-clause-trips
+returns-in_err-book-clause-trips c = round_trips
 
-pub returns : goal.returns
-returns c =
+pub returns-in_err-len-clause-trips : goal.returns-in_err-len-clause-trips
+returns-in_err-len-clause-trips c = round_trips
+
+pub returns-clause-trips : goal.returns-clause-trips
+returns-clause-trips c = round_trips
+
+pub returns-clause-back : goal.returns-clause-back
+returns-clause-back c =
     let t = c.args.text.now in
     let (accepted, is) = c.in_ok-book.ensures in
-    let stands = subst (λ m. Stands m c.args.space.now c.write.new.space c.in_ok-write.field-0) is c.in_ok-write.ensures in
-    record {
-      trips = round_trips;
-      found = (accepted, subst (λ m. Found m c.findings_of.result) is c.findings_of.ensures, written_back t c.args.space.now c.write.new.space c.in_ok-write.field-0 accepted stands);
-    }
+    let stands = subst (λ m. Stands m c.args.space.now c.write.new.space c.in_ok-len.len) is c.in_ok-len.ensures in
+    let back = written_back t c.args.space.now c.write.new.space c.in_ok-len.len accepted stands in
+    let long : c.in_ok-len.len - 0 ≡ length t = omega (arith, stands.count, accepted.long) in
+    let same = c.is_same-same.ensures.1 (ap (λ n. take n c.write.new.space) long ∙ back.same) in
+    (c.findings_of.ensures.back ∙ same, back)
