@@ -3,7 +3,7 @@ use Rattle.std.proofs.lemmas.Result.{err_from_is_err_and}
 use Rattle.booktext.specs.Text.{text_meaning}
 use Rattle.booktext.specs.Written.{Stands}
 use Rattle.booktext.proofs.Back.{back_again}
-use Rattle.bookreport.specs.Findings.{Accepted, Found, WrittenBack}
+use Rattle.bookreport.specs.Findings.{Accepted, WrittenBack}
 use Rattle.bookreport.proofs.Trips.{round_trips, refused_alone}
 use Rattle.bookreport.proofs.examination.examine.Goals as goal
 

@@ -1,6 +1,5 @@
 use Rattle.std.proofs.Common.{sym, ◌∙◌, arith}
 use Rattle.std.proofs.lemmas.Result.{err_from_is_err_and}
-use Rattle.language.specs.Book.{left, size}
 use Rattle.soundbook.specs.Refusals.{RuleRefused}
 use Rattle.soundbook.proofs.Copying.{not_part, is_part, row_is, row_fits}
 use Rattle.soundbook.proofs.copies.rule_of.Goals as goal
