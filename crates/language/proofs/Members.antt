@@ -1,6 +1,6 @@
 -- Members of lists that are put together, mapped or counted up.
 use Rattle.std.proofs.Common.{◌≡◌, ℕ, zero, suc, ◌≤◌, List, [], ◌∷◌, ◌++◌, map, length, sym, refl, ap, subst, inl, inr, ⊎_elim, arith}
-use Rattle.std.specs.List.{AllByRecursion as All}
+use Rattle.std.specs.List.{AllByRecursion}
 use Rattle.std.proofs.lemmas.Bool.{cases_order}
 use Rattle.language.specs.Columns.{Among}
 
@@ -39,7 +39,7 @@ among_map f x (y ∷ xs) (inl e) = inl (ap f e)
 among_map f x (y ∷ xs) (inr m) = inr (among_map f x xs m)
 
 -- what holds of each element holds of a member
-pub all_among : {A : Type 0} (P : A → Type 0) (xs : List A) (x : A) → All P xs → Among x xs → P x
+pub all_among : {A : Type 0} (P : A → Type 0) (xs : List A) (x : A) → AllByRecursion P xs → Among x xs → P x
 all_among P [] x a m = absurd m
 all_among P (y ∷ xs) x a (inl e) = subst P (sym e) a.0
 all_among P (y ∷ xs) x a (inr m) = all_among P xs x a.1 m

@@ -1,6 +1,6 @@
 -- What the code that fills the chart word by word rests on.
 use Rattle.std.specs.Prelude.{◌≡◌, ℕ, suc, ◌+◌, ◌*◌, ◌/◌, ◌<◌, ◌≤◌, Bool, T, ◌⊎◌, List, [], ◌∷◌, length, take, slice_index_or}
-use Rattle.std.specs.List.{AllByRecursion as All}
+use Rattle.std.specs.List.{AllByRecursion}
 use Rattle.language.specs.Book.{Rule, Grammar, Key, Numbered, Meaning, left, size, symbol}
 use Rattle.language.specs.Sound.{Sound}
 use Rattle.language.specs.Words.{Word, blank}
@@ -56,7 +56,7 @@ pub record ColumnsAre (g : Grammar) (ws : List Word) : Type 0 where
   pub local : (vs : List Word) (r d i k : ℕ) → take k ws ≡ take k vs → Held g ws r d i k → Held g vs r d i k
   pub local_wanted : (vs : List Word) (k Y : ℕ) → take k ws ≡ take k vs → Wanted g ws k Y → Wanted g vs k Y
   -- at most L n (n + 1) / 2 items over n words
-  pub few : (ts : List Item) → All (HeldItem g ws) ts → Apart ts → length ts ≤ lengths g.rules * (length ws * (length ws + 1) / 2)
+  pub few : (ts : List Item) → AllByRecursion (HeldItem g ws) ts → Apart ts → length ts ≤ lengths g.rules * (length ws * (length ws + 1) / 2)
   -- a set that is closed over the settled columns holds every item of the new column
   pub least : (k : ℕ) (S : ℕ → ℕ → ℕ → Bool) → Closed g ws k (λ r d i. T (S r d i)) → (r d i : ℕ) → Held g ws r d i k → T (S r d i)
   -- the same for what is wanted after a word

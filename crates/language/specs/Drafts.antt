@@ -1,6 +1,6 @@
 -- What a draft over a list of words shows: its items, its lit keys, and the words that match one of them.
 use Rattle.std.specs.Prelude.{ℕ, T, ◌↔◌, List, length}
-use Rattle.std.specs.List.{AllByRecursion as All}
+use Rattle.std.specs.List.{AllByRecursion}
 use Rattle.language.specs.Book.{Grammar, Key}
 use Rattle.language.specs.Words.{Word}
 use Rattle.language.specs.Readings.{Item, item}
@@ -9,7 +9,7 @@ use Rattle.language.specs.Columns.{Among, Apart}
 
 -- the list holds exactly the items over the words, each once
 pub record Items (g : Grammar) (ws : List Word) (ts : List Item) : Type 0 where
-  pub held : All (HeldItem g ws) ts
+  pub held : AllByRecursion (HeldItem g ws) ts
   pub all : (r d i k : ℕ) → Held g ws r d i k → Among (item r d i k) ts
   pub apart : Apart ts
 

@@ -3,7 +3,7 @@
 -- A list is shown to be exactly the items over the words by two tests: each item of it follows from those before it, and
 -- each item that follows from the whole list is in it.
 use Rattle.std.proofs.Common.{◌≡◌, ℕ, suc, Bool, true, ◌&&◌, ◌||◌, T, eqb, ltb, List, [], ◌∷◌, get_or, sym, subst, ⊎_elim}
-use Rattle.std.specs.List.{AllByRecursion as All}
+use Rattle.std.specs.List.{AllByRecursion}
 use Rattle.std.proofs.lemmas.Bool.{and_parts, or_cases, eqb-true, ltb-true}
 use Rattle.language.specs.Book.{Grammar, left, size, symbol}
 use Rattle.language.specs.Words.{Word, blank}
@@ -47,7 +47,7 @@ module _ (g : Grammar) (ws : List Word) where
   unfoldable pub follows : (ℕ → ℕ → Bool) → List Item → Item → Bool
   follows N ts t = begun N ts t || any (advanced ts t) ts
 
-  module _ (ts : List Item) (held : All (HeldItem g ws) ts) where
+  module _ (ts : List Item) (held : AllByRecursion (HeldItem g ws) ts) where
     ended_spans : (X j k : ℕ) (u : Item) → HeldItem g ws u → ended X j k u ≡ true → Spans g ws X j k
     unfolding ended
     ended_spans X j k u h e =
@@ -126,7 +126,7 @@ module _ (g : Grammar) (ws : List Word) where
   derived seen [] = true
   derived seen (t ∷ ts) = follows (wants seen) seen t && derived (t ∷ seen) ts
 
-  pub derived_held : (seen ts : List Item) → All (HeldItem g ws) seen → derived seen ts ≡ true → All (HeldItem g ws) ts
+  pub derived_held : (seen ts : List Item) → AllByRecursion (HeldItem g ws) seen → derived seen ts ≡ true → AllByRecursion (HeldItem g ws) ts
   unfolding derived
   derived_held seen [] a h = tt
   derived_held seen (t ∷ ts) a h =

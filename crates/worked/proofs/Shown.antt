@@ -1,7 +1,7 @@
 -- What the tests show: the items over the words, the lit keys, whether the words are whole, and which words match a lit key.
 use Rattle.std.proofs.Common.{◌≡◌, ℕ, ◌≤◌, Bool, true, false, not, ◌&&◌, eqb, List, [], ◌∷◌, length, get_or, refl, subst}
 use denote.Floats.{is_true}
-use Rattle.std.specs.List.{AllByRecursion as All}
+use Rattle.std.specs.List.{AllByRecursion}
 use Rattle.std.proofs.lemmas.Bool.{and_parts, and_from, eqb-true, eq-eqb, both_ways, not-true}
 use Rattle.language.specs.Book.{Grammar, Numbered, left, size}
 use Rattle.language.specs.Words.{Word}
@@ -53,7 +53,7 @@ module _ (g : Grammar) (ws : List Word) (ts : List Item) (Ns : List (List ℕ)) 
     unfolding exact
     apart_is = (and_parts (closed g ws ts Ns) (apart ts) (and_parts (derived g ws [] ts) _ tested).1).1
 
-    all_held : All (HeldItem g ws) ts
+    all_held : AllByRecursion (HeldItem g ws) ts
     all_held = derived_held g ws [] ts tt derived_is
 
     first_closed : corners_listed g ws ts Ns 0 g.start ≡ true

@@ -1,6 +1,6 @@
 -- How many items there can be: every place that an item may have, listed.
 use Rattle.std.proofs.Common.{◌≡◌, ℕ, zero, suc, ◌+◌, ◌*◌, ◌/◌, ◌<◌, ◌≤◌, List, [], ◌∷◌, ◌++◌, length, get_or, sym, refl, ap, ◌∙◌, subst, ⊎_elim, suc-mul, mul-suc, mul-add, add-one, arith, length-append}
-use Rattle.std.specs.List.{AllByRecursion as All}
+use Rattle.std.specs.List.{AllByRecursion}
 use Rattle.std.proofs.lemmas.Bool.{cases_order}
 use Rattle.language.specs.Book.{Rule, Grammar, norule, rule}
 use Rattle.language.specs.Words.{Word}
@@ -90,9 +90,9 @@ module _ (g : Grammar) (ws : List Word) (bounds : (r d i k : ℕ) → Held g ws 
       (starts_among g.rules (suc r) d i k k b.forward
       (dots_among (λ s e. item s e i k) 1 g.rules r (suc r) d (omega arith) b.rule.high b.some_done long))
 
-  all_placed : (ts : List Item) → All (HeldItem g ws) ts → (t : Item) → Among t ts → Among t (columns g.rules (length ws))
+  all_placed : (ts : List Item) → AllByRecursion (HeldItem g ws) ts → (t : Item) → Among t ts → Among t (columns g.rules (length ws))
   all_placed ts a t m = place_of t.rule t.done t.start t.end (bounds t.rule t.done t.start t.end (all_among (HeldItem g ws) ts t a m))
 
   -- at most L n (n + 1) / 2 items over n words
-  pub few_items : (ts : List Item) → All (HeldItem g ws) ts → Apart ts → length ts ≤ lengths g.rules * (length ws * (length ws + 1) / 2)
+  pub few_items : (ts : List Item) → AllByRecursion (HeldItem g ws) ts → Apart ts → length ts ≤ lengths g.rules * (length ws * (length ws + 1) / 2)
   few_items ts a p = subst (λ x. length ts ≤ x) (columns_length g.rules (length ws)) (no_more ts (columns g.rules (length ws)) p (all_placed ts a))

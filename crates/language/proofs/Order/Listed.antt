@@ -1,6 +1,6 @@
 -- Properties whose examples can be listed, and the least of those examples.
 use Rattle.std.proofs.Common.{◌≡◌, ℕ, zero, suc, ◌<◌, ◌⊎◌, List, [], ◌∷◌, ◌++◌, map, sym, refl, subst, inl, inr, ⊎_elim, arith}
-use Rattle.std.specs.List.{flat_map, AllByRecursion as All}
+use Rattle.std.specs.List.{flat_map, AllByRecursion}
 use Rattle.language.specs.Columns.{Among}
 use Rattle.language.proofs.Members.{among_front, among_back, among_map}
 use Rattle.std.proofs.ByRecursion.{All-append, All-map, All-weaker}
@@ -9,7 +9,7 @@ use Rattle.std.proofs.lemmas.Bool.{cases_lt}
 -- a list of all that have the property, and of nothing else
 pub record Listed {A : Type 0} (P : A → Type 0) : Type 0 where
   pub list : List A
-  pub each : All P list
+  pub each : AllByRecursion P list
   pub every : (a : A) → P a → Among a list
 
 -- nothing has the property
@@ -59,7 +59,7 @@ module _ {A B C : Type 0} (f : A → B → C) (P : A → Type 0) (Q : B → Type
   abbrev pub Made : C → Type 0
   Made c = (a : A) × (b : B) × P a × Q b × (c ≡ f a b)
 
-  made_each : (xs : List A) (ys : List B) → All P xs → All Q ys → All Made (flat_map (λ a. map (f a) ys) xs)
+  made_each : (xs : List A) (ys : List B) → AllByRecursion P xs → AllByRecursion Q ys → AllByRecursion Made (flat_map (λ a. map (f a) ys) xs)
   made_each [] ys ps qs = tt
   made_each (x ∷ xs) ys ps qs =
       All-append Made (map (f x) ys) (flat_map (λ a. map (f a) ys) xs)
@@ -102,7 +102,7 @@ module _ {A : Type 0} (R : A → A → Type 0) (trans : (a b c : A) → R a b �
   lower : (a b : A) → P a → P b → (c : A) × P c × NotAfter c a × NotAfter c b
   lower a b p q = ⊎_elim (λ e. (a, p, inl refl, inl e)) (⊎_elim (λ h. (a, p, inl refl, inr h)) (λ h. (b, q, inr h, inl refl))) (total a b p q)
 
-  least_among : (xs : List A) → All P xs → (a : A) → P a → LeastOf (λ b. (b ≡ a) ⊎ Among b xs)
+  least_among : (xs : List A) → AllByRecursion P xs → (a : A) → P a → LeastOf (λ b. (b ≡ a) ⊎ Among b xs)
   least_among [] ps a p = record { one = a; holds = p; least = λ b o. ⊎_elim (λ e. inl (sym e)) (λ m. absurd m) o }
   least_among (x ∷ xs) ps a p =
       let (c, q, ca, cx) = lower a x p ps.0 in
