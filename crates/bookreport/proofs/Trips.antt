@@ -20,5 +20,5 @@ refused_alone t f (inr of_book) = inr (of_book.0, of_book.1.first)
 
 -- what is said in full is said
 pub told_fully : (t s : List ℕ) → ToldFully t s → Told t s
-told_fully t s (inl found) = inl found
+told_fully t s (inl said) = inl (said.0, (said.1.0, said.1.1, said.1.3))
 told_fully t s (inr refused) = inr (refused.0, refused_alone t refused.0 refused.1)

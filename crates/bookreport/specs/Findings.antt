@@ -1,5 +1,5 @@
 -- What is found in a text.
-use Rattle.std.specs.Prelude.{◌≡◌, ℕ, ◌+◌, ◌*◌, Bool, cond, ◌⊎◌, List, [], ◌∷◌, ◌++◌, length, take, codes, decimal, Decides}
+use Rattle.std.specs.Prelude.{◌≡◌, ℕ, ◌+◌, ◌*◌, Bool, cond, ◌⊎◌, List, [], ◌∷◌, ◌++◌, length, take, codes, decimal, Decides, IsTrue}
 use Rattle.language.specs.Book.{Rule, Meaning}
 use Rattle.language.specs.Sound.{Sound}
 use Rattle.lines.specs.Columns.{told_fault}
@@ -25,7 +25,7 @@ pub record Accepted (t : List ℕ) : Type 0 where
 abbrev pub TextRefused : List ℕ → Fault → Type 0
 TextRefused t f = FirstNo (questions t) f ⊎ (AllYes (questions t) × Refused (text_meaning t) f)
 
--- the same, and of a book that is refused no other refusal fits
+-- the same, and no other refusal of the book fits
 abbrev pub RefusedAlone : List ℕ → Fault → Type 0
 RefusedAlone t f = FirstNo (questions t) f ⊎ (AllYes (questions t) × CheckRefuses (text_meaning t) f)
 
@@ -80,6 +80,6 @@ Told t s = (Accepted t × ((d : Findings) × Found t d × (s ≡ told_findings d
 abbrev pub ToldRefusal : Fault → List ℕ → Type 0
 ToldRefusal f s = (sentence : List ℕ) × (s ≡ told_fault f ++ (sentence ++ codes "\n"))
 
--- the same, with what is said of the refusal
+-- what is said of a text, in full: the findings in its sound book, which is written back byte for byte, or the refusal
 abbrev pub ToldFully : List ℕ → List ℕ → Type 0
-ToldFully t s = (Accepted t × ((d : Findings) × Found t d × (s ≡ told_findings d))) ⊎ ((f : Fault) × RefusedAlone t f × ToldRefusal f s)
+ToldFully t s = (Accepted t × ((d : Findings) × Found t d × IsTrue d.same × (s ≡ told_findings d))) ⊎ ((f : Fault) × RefusedAlone t f × ToldRefusal f s)

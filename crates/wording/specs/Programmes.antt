@@ -1,5 +1,5 @@
 -- The words of a whole programme text.
-use Rattle.std.specs.Prelude.{◌≡◌, ℕ, ◌<◌, ◌≤◌, List, [], length, get_or, Some, None, Option, slice_index_or}
+use Rattle.std.specs.Prelude.{◌≡◌, ℕ, ◌<◌, ◌≤◌, List, [], length, Some, None, Option, slice_index_or}
 use Rattle.rulebook.specs.declared.faults.Fault.{Fault}
 use Rattle.rulebook.specs.declared.faults.Fault.TheVariants.{ProgrammeLength}
 use Rattle.wording.specs.Runs.{Longest, bytes_in}
@@ -20,9 +20,9 @@ nothing = record { piece = End; place = 0 }
 -- these are all words of the text that begin before a place, each once, from the front
 pub record WordsBefore (t : List ℕ) (end : ℕ) (ws : List Placed) : Type 0 where
   pub each : (i : ℕ) → i < length ws → WordAt t (slice_index_or ws i nothing)
-  pub before : (i : ℕ) → i < length ws → (get_or ws i nothing).place < end
-  pub rising : (i j : ℕ) → i < j → j < length ws → (get_or ws i nothing).place < (get_or ws j nothing).place
-  pub all : (from past : ℕ) → Longest t from past → from < end → (i : ℕ) × (i < length ws) × ((get_or ws i nothing).place ≡ from)
+  pub before : (i : ℕ) → i < length ws → (slice_index_or ws i nothing).place < end
+  pub rising : (i j : ℕ) → i < j → j < length ws → (slice_index_or ws i nothing).place < (slice_index_or ws j nothing).place
+  pub all : (from past : ℕ) → Longest t from past → from < end → (i : ℕ) × (i < length ws) × ((slice_index_or ws i nothing).place ≡ from)
 
 -- the first question answered no, and the words before it: the text is too long, or a word is refused
 pub data Stopped (t : List ℕ) (ws : List Placed) : Fault → Type 0 where
