@@ -1,9 +1,10 @@
 -- The sets that are computed by rounds over the rules are the least sets.
-use Rattle.std.proofs.Common.{◌≡◌, ℕ, ◌+◌, ◌<◌, ◌≤◌, true, false, ◌||◌, length, Decides, ap, ◌∙◌, subst, inl, inr, ⊎_elim, arith}
+use Rattle.std.proofs.Common.{◌≡◌, ℕ, ◌+◌, ◌<◌, ◌≤◌, true, false, ◌||◌, IsTrue, ◌↔◌, ap, ◌∙◌, subst, inl, inr, ⊎_elim, arith}
 use mathlib.Core.Bool.{Bool-set}
 use mathlib.Core.Logic.{∥∥₁_elim}
+use native.Mathlib.Bridge.{le_prop}
 use Rattle.std.proofs.lemmas.Bool.{and_from, and_parts, both_ways, cases_lt, le-leb, leb-true}
-use Rattle.language.specs.Book.{Grammar, Meaning, Key, Numbered, left, size, symbol}
+use Rattle.language.specs.Book.{Meaning, Key, Numbered, left, size, symbol}
 use Rattle.language.specs.Chart.{Corner, self, down}
 use Rattle.language.specs.Closure.{Productive, UnitPath}
 use Rattle.language.specs.Sound.{Sound, WellFormed}
@@ -33,41 +34,41 @@ pub record Exactly (D : ℕ → Type 0) (s : SymbolSet) : Type 0 where
   pub whole : (X : ℕ) → D X → has s X ≡ true
 
 -- a closed set that grew from the keys is the set of what can be turned into keys alone
-module _ (m : Meaning) (formed : WellFormed m) (s : SymbolSet) (closed : (i : ℕ) → 1 ≤ i → i ≤ length m.grammar.rules → Closed (AllHeld m.grammar i) (left m.grammar i) s s) where
-  productive_in : ((c : ℕ) → Key m.grammar c → has s c ≡ true) → (X : ℕ) → Productive m.grammar X → has s X ≡ true
-  productive_in keys X (Productive.key c k) = keys c k
-  productive_in keys X (Productive.part r n each) = closed r n.low n.high (omega arith) (λ d l. productive_in keys (symbol m.grammar r d) (each d l)) (left_known m r formed n)
+module _ (m : Meaning) (s : SymbolSet) (closed : (i : ℕ) → Numbered m.grammar i → Closed (AllHeld m.grammar i) (left m.grammar i) s s) where
+  productive_in : WellFormed m → ((c : ℕ) → Key m.grammar c → has s c ≡ true) → (X : ℕ) → Productive m.grammar X → has s X ≡ true
+  productive_in formed keys X (Productive.key c k) = keys c k
+  productive_in formed keys X (Productive.part r n each) = closed r n (omega arith) (λ d l. productive_in formed keys (symbol m.grammar r d) (each d l)) (left_known m r formed n)
 
-  pub productive_set : (first : SymbolSet) → ((c : ℕ) → Decides (has first c) ((33 ≤ c) × (c ≤ 32 + m.grammar.keys))) → Grown (Productive m.grammar) first s → Exactly (Productive m.grammar) s
-  productive_set first keys grown =
+  pub productive_set : ∥ WellFormed m ∥₁ → (first : SymbolSet) → ((c : ℕ) → IsTrue (has first c) ↔ ((33 ≤ c) × (c ≤ 32 + m.grammar.keys))) → Grown (Productive m.grammar) first s → Exactly (Productive m.grammar) s
+  productive_set formed first keys grown =
       record {
         sound = grown.sound (λ c h. let k = (keys c).0 h in Productive.key c (record { low = k.0; high = k.1 }));
-        whole = productive_in (λ c k. grown.keeps c ((keys c).1 (k.low, k.high)));
+        whole = λ X h. ∥∥₁_elim formed (Bool-set _ _) (λ w. productive_in w (λ c k. grown.keeps c ((keys c).1 (k.low, k.high))) X h);
       }
+
+-- a well-formed book has at most 32 keys
+pub few_keys : (m : Meaning) → ∥ WellFormed m ∥₁ → m.grammar.keys ≤ 32
+few_keys m h = ∥∥₁_elim h le_prop (λ w. w.counts.few_keys)
 
 -- the empty set holds nothing
 none_held : (s : SymbolSet) → s.mask ≡ 0 → (c : ℕ) → has s c ≡ false
 none_held s none c = ap (λ m. holds m c) none ∙ holds_none c
 
--- the set holds the first n keys and nothing else
-abbrev pub FirstKeys : SymbolSet → ℕ → Type 0
-FirstKeys s n = (c : ℕ) → Decides (has s c) ((33 ≤ c) × (c < 33 + n))
+-- the set holds the key numbers below n and nothing else
+abbrev pub KeysBelow : SymbolSet → ℕ → Type 0
+KeysBelow s n = (c : ℕ) → IsTrue (has s c) ↔ ((33 ≤ c) × (c < n))
 
-pub keys_none : (s : SymbolSet) → s.mask ≡ 0 → FirstKeys s 0
+pub keys_none : (s : SymbolSet) → s.mask ≡ 0 → KeysBelow s 33
 keys_none s none c = (λ h. absurd (both_ways (has s c) (none_held s none c) h), λ h. absurd (omega arith))
 
-pub keys_more : (s t : SymbolSet) (n : ℕ) → n < 32 → FirstKeys s n → ((c : ℕ) → has t c ≡ (is_symbol (33 + n) c || has s c)) → FirstKeys t (n + 1)
-keys_more s t n few h with c = (
-  λ held. ⊎_elim (λ e. omega arith) (λ e. let k = (h c).0 e in (k.0, omega (arith, k.1))) (with_only s t (33 + n) with c held),
+pub keys_more : (s t : SymbolSet) (n : ℕ) → 33 ≤ n → n ≤ 64 → KeysBelow s n → ((c : ℕ) → has t c ≡ (is_symbol n c || has s c)) → KeysBelow t (n + 1)
+keys_more s t n low few h with c = (
+  λ held. ⊎_elim (λ e. omega arith) (λ e. let k = (h c).0 e in (k.0, omega (arith, k.1))) (with_only s t n with c held),
   λ k. ⊎_elim
-      (λ l. with_keeps s t (33 + n) with c ((h c).1 (k.0, l)))
-      (λ l. let last : 33 + n ≡ c = omega arith in subst (λ x. has t x ≡ true) last (with_adds s t (33 + n) with (symbol_fits (33 + n) (omega arith) (omega arith))))
-      (cases_lt c (33 + n)),
+      (λ l. with_keeps s t n with c ((h c).1 (k.0, l)))
+      (λ l. let last : n ≡ c = omega arith in subst (λ x. has t x ≡ true) last (with_adds s t n with (symbol_fits n (omega arith) (omega arith))))
+      (cases_lt c n),
 )
-
--- one rule of length 1 more
-pub unit_more : (g : Grammar) (X r : ℕ) (s : SymbolSet) → Numbered g r → UnitFrom g X r (has s) → ((c : ℕ) → has s c ≡ true → UnitPath g X c) → UnitPath g X (symbol g r 0)
-unit_more g X r s n from all = ⊎_elim (λ e. UnitPath.one r n from.0 e) (λ h. UnitPath.more r n from.0 (all (left g r) h)) from.1
 
 -- a symbol of a well-formed book is one that a set can hold
 pub symbol_known : (m : Meaning) (r d : ℕ) → WellFormed m → Numbered m.grammar r → d < size m.grammar r → symbolic (symbol m.grammar r d) ≡ true
@@ -78,19 +79,23 @@ symbol_known m r d h n l =
     ((h.rules r n).symbols d l)
 
 -- a closed set that grew from nothing is the set of what X is turned into alone
-module _ (m : Meaning) (formed : WellFormed m) (X : ℕ) (s : SymbolSet) (closed : (i : ℕ) → 1 ≤ i → i ≤ length m.grammar.rules → Closed (UnitFrom m.grammar X i) (symbol m.grammar i 0) s s) where
-  unit_in : (Y : ℕ) → UnitPath m.grammar X Y → has s Y ≡ true
-  unit_in Y (UnitPath.one r n one e) = closed r n.low n.high (omega arith) (one, inl e) (symbol_known m r 0 formed n (omega arith))
-  unit_in Y (UnitPath.more r n one path) = closed r n.low n.high (omega arith) (one, inr (unit_in (left m.grammar r) path)) (symbol_known m r 0 formed n (omega arith))
+module _ (m : Meaning) (X : ℕ) (s : SymbolSet) (closed : (i : ℕ) → Numbered m.grammar i → Closed (UnitFrom m.grammar X i) (symbol m.grammar i 0) s s) where
+  unit_in : WellFormed m → (Y : ℕ) → UnitPath m.grammar X Y → has s Y ≡ true
+  unit_in formed Y (UnitPath.one r n one e) = closed r n (omega arith) (one, inl e) (symbol_known m r 0 formed n (omega arith))
+  unit_in formed Y (UnitPath.more r n one path) = closed r n (omega arith) (one, inr (unit_in formed (left m.grammar r) path)) (symbol_known m r 0 formed n (omega arith))
 
-  pub unit_set : (first : SymbolSet) → first.mask ≡ 0 → Grown (UnitPath m.grammar X) first s → Exactly (UnitPath m.grammar X) s
-  unit_set first none grown = record { sound = grown.sound (λ c h. absurd (both_ways (has first c) (none_held first none c) h)); whole = unit_in }
+  pub unit_set : ∥ WellFormed m ∥₁ → (first : SymbolSet) → first.mask ≡ 0 → Grown (UnitPath m.grammar X) first s → Exactly (UnitPath m.grammar X) s
+  unit_set formed first none grown =
+      record {
+        sound = grown.sound (λ c h. absurd (both_ways (has first c) (none_held first none c) h));
+        whole = λ Y h. ∥∥₁_elim formed (Bool-set _ _) (λ w. unit_in w Y h);
+      }
 
 -- a closed set that grew from X alone is the set of the left corners of X
-module _ (m : Meaning) (X : ℕ) (s : SymbolSet) (closed : (i : ℕ) → 1 ≤ i → i ≤ length m.grammar.rules → Closed (LeftHeld m.grammar i) (symbol m.grammar i 0) s s) where
+module _ (m : Meaning) (X : ℕ) (s : SymbolSet) (closed : (i : ℕ) → Numbered m.grammar i → Closed (LeftHeld m.grammar i) (symbol m.grammar i 0) s s) where
   corner_in : WellFormed m → (symbolic X ≡ true → has s X ≡ true) → (Y : ℕ) → Corner m.grammar X Y → symbolic Y ≡ true → has s Y ≡ true
   corner_in formed held Y self known = held known
-  corner_in formed held Y (down r n c) known = closed r n.low n.high (omega arith) (corner_in formed held (left m.grammar r) c (left_known m r formed n)) known
+  corner_in formed held Y (down r n c) known = closed r n (omega arith) (corner_in formed held (left m.grammar r) c (left_known m r formed n)) known
 
   pub corner_set : ∥ Sound m ∥₁ → (none first : SymbolSet) → none.mask ≡ 0 → ((c : ℕ) → has first c ≡ (is_symbol X c || has none c)) → Grown (Corner m.grammar X) first s → CornersOf m.grammar X s
   corner_set sound none first empty with grown Y = (
@@ -100,7 +105,3 @@ module _ (m : Meaning) (X : ℕ) (s : SymbolSet) (closed : (i : ℕ) → 1 ≤ i
     where
       alone : (c : ℕ) → has first c ≡ true → Corner m.grammar X c
       alone c h = ⊎_elim (λ e. subst (Corner m.grammar X) e self) (λ e. absurd (both_ways (has none c) (none_held none empty c) e)) (with_only none first X with c h)
-
--- what holds of the numbers from 1 to n, and of the next
-pub up_to_more : (P : ℕ → Type 0) (n : ℕ) → ((q : ℕ) → 1 ≤ q → q ≤ n → P q) → P (n + 1) → (q : ℕ) → 1 ≤ q → q ≤ n + 1 → P q
-up_to_more P n below here q low high = ⊎_elim (λ l. below q low (omega arith)) (λ l. let last : n + 1 ≡ q = omega arith in subst P last here) (cases_lt q (n + 1))

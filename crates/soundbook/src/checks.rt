@@ -4,38 +4,29 @@ ghost use Rattle.language.specs.Sound.{Sound};
 ghost use Rattle.soundbook.specs.Refusals.{Refused, CheckRefuses};
 ghost use Rattle.soundbook.specs.Rows.{rule_of, form_of};
 ghost use Rattle.soundbook.specs.Sounds.{sound_meaning, smallest};
-ghost use Rattle.soundbook.specs.Tables.{meaning_of};
 
 use super::copies::table_of;
-use super::derivations::{cyclic, unproductive};
 use super::rows::{KeyRow, RuleRow};
 use super::sounds::SoundBook;
 use super::tables::{Counts, Table};
 use rulebook::{Book, Fault};
 
-// The table of a sound book, or the first question answered no.
-fn sound_table<B: Book>(book: &B) -> Result<Table, Fault>
-    ensures { MatchResult result (λ t. (meaning_of t ≡ B.meaning book.now) × Sound (B.meaning book.now)) (λ f. CheckRefuses (B.meaning book.now) f) }
-{
-    let table = table_of(book)?;
-    if let Some(part) = unproductive(&table) {
-        return Err(Fault::Unproductive {
-            part: part as usize,
-        });
-    }
-    if let Some(part) = cyclic(&table) {
-        return Err(Fault::UnitCycle {
-            part: part as usize,
-        });
-    }
-    Ok(table)
-}
-
 // The sound book that means the same as the book read, or the first question answered no.
 fn sound_book<B: Book>(book: &B) -> Result<SoundBook, Fault>
     ensures { MatchResult result (λ s. (sound_meaning s ≡ B.meaning book.now) × Sound (B.meaning book.now)) (λ f. CheckRefuses (B.meaning book.now) f) }
 {
-    let table = sound_table(book)?;
+    let formed = table_of(book)?;
+    if let Some(part) = formed.unproductive() {
+        return Err(Fault::Unproductive {
+            part: part as usize,
+        });
+    }
+    if let Some(part) = formed.cyclic() {
+        return Err(Fault::UnitCycle {
+            part: part as usize,
+        });
+    }
+    let table = formed.table;
     Ok(SoundBook { table })
 }
 
@@ -44,8 +35,7 @@ pub fn check<B: Book>(book: &B, place: &mut SoundBook) -> Result<(), Fault>
     ensures filled { MatchResult result (λ _. (sound_meaning place.new ≡ B.meaning book.now) × Sound (B.meaning book.now)) (λ f. (place.new ≡ place.old) × Refused (B.meaning book.now) f) }
     ensures only { IfErr result (λ f. CheckRefuses (B.meaning book.now) f) }
 {
-    let sound = sound_book(book)?;
-    *place = sound;
+    *place = sound_book(book)?;
     Ok(())
 }
 

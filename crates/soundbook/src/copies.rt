@@ -8,6 +8,7 @@ ghost use Rattle.soundbook.specs.Refusals.{SymbolFault, RuleRefused, RulesRefuse
 ghost use Rattle.soundbook.specs.Copies.{SymbolsCopied, RulesCopied, LettersCopied, LengthFits, KeysCopied};
 ghost use Rattle.rulebook.specs.declared.faults.Fault.TheVariants.{Counts as CountsFault};
 
+use super::derivations::FormedTable;
 use super::rows::{KeyRow, RuleRow};
 use super::tables::{Counts, Table};
 use rulebook::{Book, Fault};
@@ -176,15 +177,16 @@ fn keys_of<B: Book>(book: &B, counts: &Counts) -> Result<[KeyRow; 32], Fault>
 }
 
 // A book in fixed memory, if its counts, rules and keys are in form, asked in that order.
-pub(super) fn table_of<B: Book>(book: &B) -> Result<Table, Fault>
-    ensures { MatchResult result (λ t. (meaning_of t ≡ B.meaning book.now) × WellFormed (B.meaning book.now)) (λ f. CopyRefused (B.meaning book.now) f) }
+pub(super) fn table_of<B: Book>(book: &B) -> Result<FormedTable, Fault>
+    ensures { MatchResult result (λ t. (meaning_of t.table ≡ B.meaning book.now) × WellFormed (B.meaning book.now)) (λ f. CopyRefused (B.meaning book.now) f) }
 {
     let counts = counts_of(book)?;
     let rules = rules_of(book, &counts)?;
     let keys = keys_of(book, &counts)?;
-    Ok(Table {
+    let table = Table {
         counts,
         rules,
         keys,
-    })
+    };
+    Ok(FormedTable { table })
 }

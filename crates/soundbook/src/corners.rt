@@ -20,7 +20,7 @@ struct FirstSymbols<'b> {
 }
 
 impl Growth for FirstSymbols<'_> {
-    ghost many = { λ f. length (meaning_of f.table.now).grammar.rules };
+    ghost grammar = { λ f. (meaning_of f.table.now).grammar };
 
     ghost fires = { λ f. LeftHeld (meaning_of f.table.now).grammar };
 
@@ -32,13 +32,15 @@ impl Growth for FirstSymbols<'_> {
         self.table.rules()
     }
 
-    fn step(&self, rule: u16, set: &SymbolSet) -> SymbolSet {
-        if set.contains(self.table.left(rule)) {
-            set.with(self.table.symbol(rule, 0))
-        } else {
-            *set
-        }
+    fn fires(&self, rule: u16, set: &SymbolSet) -> bool {
+        set.contains(self.table.left(rule))
     }
+
+    fn added(&self, rule: u16) -> u16 {
+        self.table.symbol(rule, 0)
+    }
+
+    ghost follows = { λ f r held n all derived. Corner.down r n (derived _ all) };
 }
 
 // The left corners of a symbol: every symbol that can stand first in what it is turned into, itself among them.

@@ -1,5 +1,6 @@
 // The second half of the check: which parts can be turned into keys alone, and which into themselves alone.
-ghost use Rattle.std.specs.Prelude.{ℕ, ◌+◌, ◌≤◌, true, length, Decides, MatchOption};
+ghost use Rattle.std.specs.Prelude.{ℕ, ◌+◌, ◌≤◌, true, IsTrue, ◌↔◌, MatchOption};
+ghost use Rattle.std.proofs.Common.{⊎_elim};
 ghost use Rattle.language.specs.Book.{left as left_of, symbol as symbol_of, Part};
 ghost use Rattle.language.specs.Closure.{Productive, UnitPath};
 ghost use Rattle.language.specs.Sound.{WellFormed};
@@ -12,18 +13,6 @@ use super::closures::{Growth, closure};
 use super::tables::Table;
 use rulebook::{Book, SymbolSet};
 
-// Whether every symbol of a rule's right side is in a set.
-fn all_in(table: &Table, rule: u16, set: &SymbolSet) -> bool
-    ensures { Decides result (AllHeld (meaning_of table.now).grammar rule (has set.now)) }
-{
-    for at in 0..table.size(rule) {
-        if !set.contains(table.symbol(rule, at)) {
-            return false;
-        }
-    }
-    true
-}
-
 // A rule adds its left part where all symbols of its right side can be turned into keys alone.
 #[derive(Clone, Copy)]
 struct Productivity<'b> {
@@ -31,7 +20,7 @@ struct Productivity<'b> {
 }
 
 impl Growth for Productivity<'_> {
-    ghost many = { λ p. length (meaning_of p.table.now).grammar.rules };
+    ghost grammar = { λ p. (meaning_of p.table.now).grammar };
 
     ghost fires = { λ p. AllHeld (meaning_of p.table.now).grammar };
 
@@ -43,47 +32,15 @@ impl Growth for Productivity<'_> {
         self.table.rules()
     }
 
-    fn step(&self, rule: u16, set: &SymbolSet) -> SymbolSet {
-        if all_in(self.table, rule, set) {
-            set.with(self.table.left(rule))
-        } else {
-            *set
-        }
+    fn fires(&self, rule: u16, set: &SymbolSet) -> bool {
+        (0..self.table.size(rule)).all(|at| set.contains(self.table.symbol(rule, at)))
     }
-}
 
-// The set of all keys.
-fn keys_only(table: &Table) -> SymbolSet
-    requires { WellFormed (meaning_of table.now) }
-    ensures { (c : ℕ) → Decides (has result c) ((33 ≤ c) × (c ≤ 32 + (meaning_of table.now).grammar.keys)) }
-{
-    let mut set = SymbolSet::empty();
-    for place in 0..table.keys() {
-        set = set.with(33 + place);
+    fn added(&self, rule: u16) -> u16 {
+        self.table.left(rule)
     }
-    set
-}
 
-// The lowest part that cannot be turned into keys alone.
-pub(super) fn unproductive(table: &Table) -> Option<u16>
-    requires { WellFormed (meaning_of table.now) }
-    ensures { MatchOption result ((X : ℕ) → Part (meaning_of table.now).grammar X → Productive (meaning_of table.now).grammar X) (λ p. Lowest (meaning_of table.now).grammar (Productive (meaning_of table.now).grammar) p) }
-{
-    let set = closure(&Productivity { table }, keys_only(table));
-    for place in 0..table.parts() {
-        if !set.contains(place + 1) {
-            return Some(place + 1);
-        }
-    }
-    None
-}
-
-// Whether a rule has length 1 and its left part is a given one or in a set.
-fn unit_from(table: &Table, from: u16, rule: u16, set: &SymbolSet) -> bool
-    ensures { Decides result (UnitFrom (meaning_of table.now).grammar from rule (has set.now)) }
-{
-    let left = table.left(rule);
-    table.size(rule) == 1 && (left == from || set.contains(left))
+    ghost follows = { λ p r held n all derived. Productive.part r n (λ d l. derived _ (all d l)) };
 }
 
 // A rule of length 1 adds its symbol where its left part is the one asked about, or was added.
@@ -94,7 +51,7 @@ struct UnitRules<'b> {
 }
 
 impl Growth for UnitRules<'_> {
-    ghost many = { λ u. length (meaning_of u.table.now).grammar.rules };
+    ghost grammar = { λ u. (meaning_of u.table.now).grammar };
 
     ghost fires = { λ u. UnitFrom (meaning_of u.table.now).grammar u.from };
 
@@ -106,25 +63,61 @@ impl Growth for UnitRules<'_> {
         self.table.rules()
     }
 
-    fn step(&self, rule: u16, set: &SymbolSet) -> SymbolSet {
-        if unit_from(self.table, self.from, rule, set) {
-            set.with(self.table.symbol(rule, 0))
-        } else {
-            *set
-        }
+    fn fires(&self, rule: u16, set: &SymbolSet) -> bool {
+        let left = self.table.left(rule);
+        self.table.size(rule) == 1 && (left == self.from || set.contains(left))
     }
+
+    fn added(&self, rule: u16) -> u16 {
+        self.table.symbol(rule, 0)
+    }
+
+    ghost follows = { λ u r held n all derived. ⊎_elim (λ e. UnitPath.one r n all.0 e) (λ h. UnitPath.more r n all.0 (derived _ h)) all.1 };
 }
 
-// The lowest part that is turned into itself alone.
-pub(super) fn cyclic(table: &Table) -> Option<u16>
-    requires { WellFormed (meaning_of table.now) }
-    ensures { MatchOption result ((X : ℕ) → Part (meaning_of table.now).grammar X → UnitPath (meaning_of table.now).grammar X X → ⊥) (λ p. Lowest (meaning_of table.now).grammar (λ X. UnitPath (meaning_of table.now).grammar X X → ⊥) p) }
-{
-    for place in 0..table.parts() {
-        let from = place + 1;
-        if closure(&UnitRules { table, from }, SymbolSet::empty()).contains(from) {
-            return Some(from);
+// A table whose counts, rules and keys are in form.
+#[derive(Clone, Copy)]
+pub(super) struct FormedTable {
+    pub(super) table: Table,
+    ghost formed: { ∥ WellFormed (meaning_of table) ∥₁ },
+}
+
+impl FormedTable {
+    // The set of all keys.
+    fn keys_only(&self) -> SymbolSet
+        ensures { (c : ℕ) → IsTrue (has result c) ↔ ((33 ≤ c) × (c ≤ 32 + (meaning_of self.now.table).grammar.keys)) }
+    {
+        let mut set = SymbolSet::empty();
+        for key in 33..33 + self.table.keys() {
+            set = set.with(key);
         }
+        set
     }
-    None
+
+    // The lowest part that cannot be turned into keys alone.
+    pub(super) fn unproductive(&self) -> Option<u16>
+        ensures { MatchOption result ((X : ℕ) → Part (meaning_of self.now.table).grammar X → Productive (meaning_of self.now.table).grammar X) (λ p. Lowest (meaning_of self.now.table).grammar (Productive (meaning_of self.now.table).grammar) p) }
+    {
+        let growth = Productivity { table: &self.table };
+        let set = closure(&growth, self.keys_only());
+        (1..=self.table.parts()).find(|part| !set.contains(*part))
+    }
+
+    // Whether a part is turned into itself alone.
+    fn is_cyclic(&self, from: u16) -> bool
+        ensures { IsTrue result ↔ UnitPath (meaning_of self.now.table).grammar from from }
+    {
+        let growth = UnitRules {
+            table: &self.table,
+            from,
+        };
+        closure(&growth, SymbolSet::empty()).contains(from)
+    }
+
+    // The lowest part that is turned into itself alone.
+    pub(super) fn cyclic(&self) -> Option<u16>
+        ensures { MatchOption result ((X : ℕ) → Part (meaning_of self.now.table).grammar X → UnitPath (meaning_of self.now.table).grammar X X → ⊥) (λ p. Lowest (meaning_of self.now.table).grammar (λ X. UnitPath (meaning_of self.now.table).grammar X X → ⊥) p) }
+    {
+        (1..=self.table.parts()).find(|part| self.is_cyclic(*part))
+    }
 }

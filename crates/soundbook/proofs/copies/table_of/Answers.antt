@@ -1,5 +1,13 @@
+use Rattle.std.proofs.Common.{◌≡◌, List, sym, subst}
 use Rattle.std.proofs.lemmas.Result.{err_from_is_err_and}
+use Rattle.language.specs.Book.{Meaning}
+use Rattle.language.specs.Sound.{CountsFit, WellFormed}
+use Rattle.soundbook.specs.Copies.{RulesCopied, KeysCopied}
 use Rattle.soundbook.specs.Refusals.{CopyRefused}
+use Rattle.soundbook.specs.Tables.{Counted, meaning_of}
+use Rattle.soundbook.specs.declared.rows.KeyRow.{KeyRow}
+use Rattle.soundbook.specs.declared.rows.RuleRow.{RuleRow}
+use Rattle.soundbook.specs.declared.tables.Counts.{Counts}
 use Rattle.soundbook.proofs.Copying.{table_is, rules_fit, keys_fit}
 use Rattle.soundbook.proofs.copies.table_of.Goals as goal
 
@@ -20,11 +28,15 @@ returns-in_err-keys g c =
     let counts = c.in_ok-counts.ensures in
     rw (p.1, p.2) (CopyRefused.keys counts.1 (rules_fit counts.0 c.in_ok-rules.ensures) c.in_err-keys.ensures)
 
+-- counts, rules and keys that are copied make a table in form, which means the same as the book
+formed_book : {m : Meaning} {k : Counts} {rules : List RuleRow} {keys : List KeyRow} → Counted m k × CountsFit m.grammar → RulesCopied m.grammar k.rules rules → KeysCopied m k.keys keys
+    → (meaning_of (record { counts = k; rules = rules; keys = keys }) ≡ m) × WellFormed m
+formed_book {k} {rules} {keys} c rs ks = (table_is _ (record { counts = k; rules = rules; keys = keys }) c.0 rs ks, record { counts = c.1; rules = rules_fit c.0 rs; keys = keys_fit c.0 ks })
+
+pub invariant_of-result : goal.invariant_of-result
+invariant_of-result g c =
+    let book = formed_book c.in_ok-counts.ensures c.in_ok-rules.ensures c.in_ok-keys.ensures in
+    record { formed = ∣ subst WellFormed (sym book.0) book.1 ∣₁ }
+
 pub returns : goal.returns
-returns g c =
-    let counts = c.in_ok-counts.ensures in
-    let rules = c.in_ok-rules.ensures in
-    let keys = c.in_ok-keys.ensures in (
-      table_is _ (record { counts = c.in_ok-counts.counts; rules = c.in_ok-rules.rules; keys = c.in_ok-keys.keys }) counts.0 rules keys,
-      record { counts = counts.1; rules = rules_fit counts.0 rules; keys = keys_fit counts.0 keys },
-    )
+returns g c = formed_book c.in_ok-counts.ensures c.in_ok-rules.ensures c.in_ok-keys.ensures
