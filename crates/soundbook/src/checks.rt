@@ -18,12 +18,12 @@ fn sound_book<B: Book>(book: &B) -> Result<SoundBook, Fault>
     let formed = table_of(book)?;
     if let Some(part) = formed.unproductive() {
         return Err(Fault::Unproductive {
-            part: part as usize,
+            part: usize::from(part),
         });
     }
     if let Some(part) = formed.cyclic() {
         return Err(Fault::UnitCycle {
-            part: part as usize,
+            part: usize::from(part),
         });
     }
     let table = formed.table;

@@ -65,7 +65,7 @@ pub(super) fn closure<G: Growth>(growth: &G, first: SymbolSet) -> SymbolSet
     let mut set = first;
     loop {
         let next = round(growth, &set);
-        if next.same(&set) {
+        if next == set {
             return set;
         }
         set = next;

@@ -15,13 +15,13 @@ returns-in_err-formed g c =
 pub returns-in-Some : goal.returns-in-Some
 returns-in-Some g c =
     let same = c.in_ok-formed.ensures in
-    check_refuses _ (Refused.unproductive same.1 (subst (λ m. Lowest m.grammar (Productive m.grammar) c.in-Some.part) same.0 c.in-Some.ensures))
+    rw c.from.ensures (check_refuses _ (Refused.unproductive same.1 (subst (λ m. Lowest m.grammar (Productive m.grammar) c.in-Some.part) same.0 c.in-Some.ensures)))
 
 pub returns-in-Some-cyclic : goal.returns-in-Some-cyclic
 returns-in-Some-cyclic g c =
     let same = c.in_ok-formed.ensures in
-    check_refuses _ (Refused.cyclic same.1 (subst (λ m. (X : _) → Part m.grammar X → Productive m.grammar X) same.0 c.in_default.ensures)
-    (subst (λ m. Lowest m.grammar (λ X. UnitPath m.grammar X X → ⊥) c.in-Some-cyclic.part) same.0 c.in-Some-cyclic.ensures))
+    rw c.from-in-Some-cyclic.ensures (check_refuses _ (Refused.cyclic same.1 (subst (λ m. (X : _) → Part m.grammar X → Productive m.grammar X) same.0 c.in_default.ensures)
+    (subst (λ m. Lowest m.grammar (λ X. UnitPath m.grammar X X → ⊥) c.in-Some-cyclic.part) same.0 c.in-Some-cyclic.ensures)))
 
 -- what the table was asked is true of the book
 sound_book : {n m : Meaning} → n ≡ m → WellFormed m → ((X : ℕ) → Part n.grammar X → Productive n.grammar X) → ((X : ℕ) → Part n.grammar X → UnitPath n.grammar X X → ⊥) → Sound m
