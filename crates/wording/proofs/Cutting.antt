@@ -1,20 +1,19 @@
 -- The words of a text, found one after another.
-use Rattle.std.proofs.Common.{◌≡◌, ℕ, ◌-◌, ◌<◌, ◌≤◌, List, [], ◌∷◌, ◌++◌, length, get_or, drop, sym, refl, ap, ◌∙◌, subst, ⊎_elim, arith}
+use Rattle.std.proofs.Common.{◌≡◌, ℕ, ◌-◌, ◌<◌, ◌≤◌, ◌⊎◌, List, [], ◌∷◌, ◌++◌, length, get_or, drop, sym, refl, ap, ◌∙◌, subst, inl, inr, ⊎_elim, arith, Bor}
 use Rattle.std.proofs.lemmas.List.{length-take, length-drop, length_push, get_or_append_left, get_or_push}
 use Rattle.std.proofs.lemmas.Bool.{both_ways, cases_lt}
 use Rattle.rulebook.specs.declared.faults.Fault.{Fault}
-use Rattle.wording.specs.Pieces.{Shows, WordRefused, bytes_of}
+use Rattle.wording.specs.Pieces.{Shows, WordRefused}
 use Rattle.wording.specs.Programmes.{WordAt, WordsBefore, nothing}
 use Rattle.wording.specs.Runs.{separates, Longest, NextWord, bytes_in}
 use Rattle.wording.specs.declared.pieces.Piece.{Piece}
-use Rattle.wording.specs.declared.pieces.Piece.TheVariants.{Name, Figure, End}
+use Rattle.wording.specs.declared.pieces.Piece.TheVariants.{Name, Figure}
 use Rattle.wording.specs.declared.pieces.Placed.{Placed}
 
--- a piece shows the bytes of its word
-pub shows_bytes : (s : List ℕ) (p : Piece) → Shows s p → bytes_of p ≡ s
-shows_bytes s (Name b) h = h.0
-shows_bytes s (Figure b v) h = h.0
-shows_bytes s End h = sym h
+-- a name or a figure shows some bytes
+pub shown_some : (s : List ℕ) (p : Piece) → Shows s p → ((b : Bor (List ℕ)) × (p ≡ Name b)) ⊎ ((b : Bor (List ℕ)) × (v : ℕ) × (p ≡ Figure b v)) → 1 ≤ length s
+shown_some s p h (inl (b, e)) = (subst (Shows s) e h).1.low
+shown_some s p h (inr (b, v, e)) = (subst (Shows s) e h).1.some
 
 -- the next word, after those that begin before a place
 module _ (t : List ℕ) (at from past : ℕ) (next : NextWord t at from past) where

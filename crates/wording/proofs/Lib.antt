@@ -3,3 +3,4 @@ mod Cutting
 mod Decided
 mod Reading
 mod Spelling
+pub mod Zipped

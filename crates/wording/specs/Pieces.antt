@@ -41,6 +41,12 @@ pub data ByteFits (first b : ℕ) : Type 0 where
   letters : Letter first → Letter b → ByteFits first b
   figures : (Letter first → ⊥) → Digit b → ByteFits first b
 
+-- the byte at this place is the first that does not fit
+pub record IsMisfit (first : ℕ) (s : List ℕ) (k : ℕ) : Type 0 where
+  pub inside : k < length s
+  pub before : (i : ℕ) → i < k → ByteFits first (slice_index s i)
+  pub unfit : ByteFits first (slice_index s k) → ⊥
+
 -- more bytes than a name may have, or than a figure
 abbrev pub TooLong : List ℕ → Type 0
 TooLong s = (Letter (slice_index s 0) × (24 < length s)) ⊎ ((Letter (slice_index s 0) → ⊥) × (4 < length s))

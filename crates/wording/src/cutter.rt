@@ -20,7 +20,7 @@ pub struct Cutter<'t> {
 fn separates(byte: u8) -> bool
     ensures { result ≡ separates_at byte }
 {
-    byte == b' ' || byte == b'\n'
+    matches!(byte, b' ' | b'\n')
 }
 
 // Where the run from a place on ends: of bytes that separate words, or of others.

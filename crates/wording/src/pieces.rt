@@ -3,7 +3,7 @@ ghost use Rattle.std.specs.Prelude.{◌≡◌};
 ghost use Rattle.wording.specs.Pieces.{bytes_of};
 
 // A word of a text, or its end.
-#[derive(Clone, Copy)]
+#[derive(Clone, Copy, Debug, PartialEq, Eq)]
 pub enum Piece<'t> {
     Name(&'t [u8]),
     // with its value
@@ -12,7 +12,7 @@ pub enum Piece<'t> {
 }
 
 // A piece with the place of its first byte, counted from 0.
-#[derive(Clone, Copy)]
+#[derive(Clone, Copy, Debug, PartialEq, Eq)]
 pub struct Placed<'t> {
     pub piece: Piece<'t>,
     pub place: usize,

@@ -8,7 +8,7 @@ use super::words::{Word, is_key_number};
 use rulebook::SymbolSet;
 
 // A pressed key: it matches that key alone.
-#[derive(Clone, Copy)]
+#[derive(Clone, Copy, Debug, PartialEq, Eq)]
 pub struct Pressed {
     pub key: u16,
 }
@@ -22,7 +22,7 @@ impl Word for Pressed {
 }
 
 // The set of keys that some word matches, in which form lists hold their words.
-#[derive(Clone, Copy)]
+#[derive(Clone, Copy, Debug, PartialEq, Eq)]
 pub struct Matched {
     keys: SymbolSet,
 }

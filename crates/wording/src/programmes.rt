@@ -3,7 +3,7 @@ ghost use Rattle.std.specs.Prelude.{◌≤◌, length, IfOk};
 ghost use Rattle.wording.specs.Programmes.{CutAs};
 
 use super::cutter::Cutter;
-use super::pieces::Placed;
+use super::pieces::{Piece, Placed};
 use rulebook::Fault;
 use std::alloc::{AllocError, Global};
 
@@ -27,12 +27,10 @@ fn cut_words(heap: Global, text: &[u8]) -> Result<Programme<'_>, AllocError>
     let mut cutter = Cutter::new(text);
     loop {
         match cutter.next_piece() {
-            Ok(word) => {
-                if word.piece.bytes().is_empty() {
-                    return Ok(Programme { words, fault: None });
-                }
-                words.push(word)?;
-            }
+            Ok(word) => match word.piece {
+                Piece::End => return Ok(Programme { words, fault: None }),
+                Piece::Name(_) | Piece::Figure(..) => words.push(word)?,
+            },
             Err(fault) => {
                 return Ok(Programme {
                     words,

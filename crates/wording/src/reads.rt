@@ -1,6 +1,6 @@
 // A word of programme text is read as a name or a figure.
-ghost use Rattle.std.specs.Prelude.{◌≡◌, ℕ, ◌+◌, ◌^◌, ◌<◌, ◌≤◌, length, Decides, MatchResult, slice_index};
-ghost use Rattle.wording.specs.Pieces.{Digit, Figures, written_after, Shows, ByteFits, WordRefused};
+ghost use Rattle.std.specs.Prelude.{◌≡◌, ℕ, ◌+◌, ◌^◌, ◌<◌, ◌≤◌, length, IsTrue, ◌↔◌, MatchOption, MatchResult, slice_index};
+ghost use Rattle.wording.specs.Pieces.{Figures, written_after, Shows, ByteFits, IsMisfit, WordRefused};
 
 use super::pieces::Piece;
 use rulebook::Fault;
@@ -12,39 +12,22 @@ const LONGEST_NAME: usize = 24;
 // The most figures of a number.
 const LONGEST_FIGURE: usize = 4;
 
-// Whether a byte is one of the figures 0 to 9.
-fn is_digit(byte: u8) -> bool
-    ensures { Decides result (Digit byte) }
-{
-    b'0' <= byte && byte <= b'9'
-}
-
 // Whether a byte fits the first byte of its word.
 fn byte_fits(first: u8, byte: u8) -> bool
-    ensures { Decides result (ByteFits first byte) }
+    ensures { IsTrue result ↔ ByteFits first byte }
 {
     if is_letter(first) {
         is_letter(byte)
     } else {
-        is_digit(byte)
+        byte.is_ascii_digit()
     }
 }
 
-// Whether every byte of a word fits its first; the word begins after so many bytes.
-fn bytes_fit(word: &[u8], from: usize) -> Result<(), Fault>
-    requires some { 1 ≤ length word.now }
-    requires fits { from + length word.now < 2 ^ 64 }
-    ensures { MatchResult result (λ _. (i : ℕ) → i < length word.now → ByteFits (slice_index word.now 0) (slice_index word.now i)) (λ f. WordRefused from word.now f) }
+// The place of the first byte of a word that does not fit, counted from 0.
+fn misfit(first: u8, word: &[u8]) -> Option<usize>
+    ensures { MatchOption result ((i : ℕ) → i < length word.now → ByteFits first (slice_index word.now i)) (IsMisfit first word.now) }
 {
-    let first = word[0];
-    for (at, byte) in word.iter().enumerate() {
-        if !byte_fits(first, *byte) {
-            return Err(Fault::WordByte {
-                byte: from + at + 1,
-            });
-        }
-    }
-    Ok(())
+    word.iter().position(|byte| !byte_fits(first, *byte))
 }
 
 // The number that figures write.
@@ -64,22 +47,17 @@ pub(super) fn piece_of(word: &[u8], from: usize) -> Result<Piece<'_>, Fault>
     requires { from + length word.now < 2 ^ 64 }
     ensures { MatchResult result (λ p. Shows word.now p) (λ f. WordRefused from word.now f) }
 {
-    if word.is_empty() {
+    let Some(first) = word.first() else {
         return Ok(Piece::End);
-    }
-    bytes_fit(word, from)?;
-    let letters = is_letter(word[0]);
-    let most = if letters {
-        LONGEST_NAME
-    } else {
-        LONGEST_FIGURE
     };
-    if word.len() > most {
-        return Err(Fault::WordLength { byte: from + 1 });
+    if let Some(at) = misfit(*first, word) {
+        return Err(Fault::WordByte {
+            byte: from + at + 1,
+        });
     }
-    if letters {
-        Ok(Piece::Name(word))
-    } else {
-        Ok(Piece::Figure(word, value_of(word)))
+    match (is_letter(*first), word.len()) {
+        (true, ..=LONGEST_NAME) => Ok(Piece::Name(word)),
+        (false, ..=LONGEST_FIGURE) => Ok(Piece::Figure(word, value_of(word))),
+        _ => Err(Fault::WordLength { byte: from + 1 }),
     }
 }

@@ -1,5 +1,5 @@
 // Words of programme text, matched by the spellings of a sound book.
-ghost use Rattle.std.specs.Prelude.{◌≡◌, ℕ, List, ◌++◌, Decides};
+ghost use Rattle.std.specs.Prelude.{◌≡◌, ℕ, List, ◌++◌, IsTrue, ◌↔◌};
 ghost use Rattle.language.specs.Book.{form as form_in, spelling as spelling_of};
 ghost use Rattle.soundbook.specs.Sounds.{sound_meaning};
 ghost use Rattle.wording.specs.Matching.{NameMatches, PieceMatches, piece_matches};
@@ -7,7 +7,7 @@ ghost use Rattle.wording.specs.Sets.{word_of};
 
 use super::pieces::{Piece, Placed};
 use super::words::Word;
-use rulebook::{Book, place_of};
+use rulebook::{Book, KeyKind, UnknownKind, place_of};
 use soundbook::SoundBook;
 
 // The fewest bytes to which a key of kind 2 may be shortened.
@@ -22,40 +22,38 @@ pub struct Spelled<'t, 'b> {
 
 // Whether the spelling of a key begins with a name.
 fn begins_with<B: Book>(book: &B, key: u16, name: &[u8]) -> bool
-    ensures { Decides result ((rest : List ℕ) × (spelling_of (B.meaning book.now).forms key ≡ name.now ++ rest)) }
+    ensures { IsTrue result ↔ (rest : List ℕ) × (spelling_of (B.meaning book.now).forms key ≡ name.now ++ rest) }
 {
-    if name.len() > book.spelling_len(key) as usize {
-        return false;
-    }
-    for (at, byte) in name.iter().enumerate() {
-        if book.spelling_byte(key, at as u16) != *byte {
-            return false;
-        }
-    }
-    true
+    let len = book.spelling_len(key);
+    name.len() <= usize::from(len)
+        && (0..len)
+            .zip(name)
+            .all(|(at, byte)| book.spelling_byte(key, at) == *byte)
 }
 
 // Whether a name matches a key by its kind and spelling.
 fn name_matches<B: Book>(book: &B, key: u16, name: &[u8]) -> bool
-    ensures { Decides result (NameMatches name.now (form_in (B.meaning book.now).forms key)) }
+    ensures { IsTrue result ↔ NameMatches name.now (form_in (B.meaning book.now).forms key) }
 {
-    match book.kind(key) {
-        0 => name.len() == book.spelling_len(key) as usize && begins_with(book, key, name),
-        2 => name.len() >= SHORTEST && begins_with(book, key, name),
-        _ => false,
+    match KeyKind::try_from(book.kind(key)) {
+        Ok(KeyKind::Full) => {
+            name.len() == usize::from(book.spelling_len(key)) && begins_with(book, key, name)
+        }
+        Ok(KeyKind::Shortened) => name.len() >= SHORTEST && begins_with(book, key, name),
+        Ok(KeyKind::Figure) | Err(UnknownKind(_)) => false,
     }
 }
 
 // Whether a piece matches a key of the book.
 fn piece_fits<B: Book>(book: &B, key: u16, piece: &Piece) -> bool
-    ensures { Decides result (PieceMatches (B.meaning book.now) piece.now key) }
+    ensures { IsTrue result ↔ PieceMatches (B.meaning book.now) piece.now key }
 {
     if place_of(key, 33, book.keys()).is_none() {
         return false;
     }
     match piece {
         Piece::Name(name) => name_matches(book, key, name),
-        Piece::Figure(..) => book.kind(key) == 1,
+        Piece::Figure(..) => matches!(KeyKind::try_from(book.kind(key)), Ok(KeyKind::Figure)),
         Piece::End => false,
     }
 }
@@ -65,7 +63,7 @@ impl Word for Spelled<'_, '_> {
 
     fn matches(&self, key: u16) -> bool
         ensures set { result ≡ word_of (piece_matches (sound_meaning self.now.book.now) self.now.word.piece) key }
-        ensures rules { Decides result (PieceMatches (sound_meaning self.now.book.now) self.now.word.piece key) }
+        ensures rules { IsTrue result ↔ PieceMatches (sound_meaning self.now.book.now) self.now.word.piece key }
     {
         piece_fits(self.book, key, &self.word.piece)
     }

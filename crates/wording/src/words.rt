@@ -16,5 +16,5 @@ pub trait Word {
 pub(super) fn is_key_number(number: u16) -> bool
     ensures { result ≡ key_number number }
 {
-    33 <= number && number <= 64
+    matches!(number, 33..=64)
 }

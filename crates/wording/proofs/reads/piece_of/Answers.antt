@@ -1,15 +1,19 @@
-use Rattle.std.proofs.Common.{sym, ◌∙◌, inl, inr, arith}
-use Rattle.std.proofs.lemmas.List.{nil_from_length}
-use Rattle.std.proofs.lemmas.Bool.{eqb-true}
-use Rattle.std.proofs.lemmas.Bool.Decides.{not_from_Decides}
-use Rattle.wording.specs.Pieces.{WordRefused}
+use Rattle.std.proofs.Common.{◌<◌, ◌⊎◌, length, inl, inr, rules, subst, arith}
+use Rattle.language.specs.Sound.{Letter}
+use Rattle.wording.specs.Pieces.{ByteFits, IsMisfit, WordRefused}
+use Rattle.std.specs.Prelude.{slice_index}
 use Rattle.wording.proofs.reads.piece_of.Goals as goal
-use Rattle.wording.proofs.reads.piece_of.Goals.{then-letters, else-letters}
+use Rattle.wording.proofs.reads.piece_of.Goals.{in_default-2-via-then-is_letter+else-word-lt25, in_default-2-via-else-is_letter+else-this-lt5}
 
-pub returns-then-is_empty : goal.returns-then-is_empty
-returns-then-is_empty c = nil_from_length _ (eqb-true _ 0 (sym c.is_empty.ensures ∙ c.if-is_empty.true))
+pub returns-in-Some-misfit : goal.returns-in-Some-misfit
+returns-in-Some-misfit c =
+    let misfit = subst (λ b. IsMisfit b c.args.word.now c.in-Some-misfit.at) (c.in-Some.ensures.item.3.1 0) c.in-Some-misfit.ensures in
+    WordRefused.byte c.in-Some-misfit.at misfit.inside misfit.before misfit.unfit
 
-pub returns-then-word-most : goal.returns-then-word-most
-returns-then-word-most c =
-    WordRefused.long c.in_ok-bytes_fit.ensures
-    (elim c.if-letters.branch [ then-letters w ↦ inl (c.is_letter-letters.ensures.0 w.if-letters.true, omega (arith, w.most-is, c.if-word-most.true)) | else-letters w ↦ inr (not_from_Decides _ c.is_letter-letters.ensures w.if-letters.false, omega (arith, w.most-is, c.if-word-most.true)) ])
+pub returns-in_default-2 : goal.returns-in_default-2
+returns-in_default-2 c =
+    let first = c.in-Some.ensures.item.3.1 0 in
+    WordRefused.long
+    (λ i l. subst (λ b. ByteFits b (slice_index c.args.word.now i)) first (c.in_default-misfit.ensures i l))
+    (subst (λ b. (Letter b × (24 < length c.args.word.now)) ⊎ ((Letter b → ⊥) × (4 < length c.args.word.now))) first
+    (elim c.in_default-2.branch [ in_default-2-via-then-is_letter+else-word-lt25 w ↦ inl (search rules, omega arith) | in_default-2-via-else-is_letter+else-this-lt5 w ↦ inr (search rules, omega arith) ]))
