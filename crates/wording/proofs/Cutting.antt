@@ -1,11 +1,11 @@
 -- The words of a text, found one after another.
-use Rattle.std.proofs.Common.{◌≡◌, ℕ, ◌-◌, ◌<◌, ◌≤◌, ◌⊎◌, List, [], ◌∷◌, ◌++◌, length, get_or, drop, sym, refl, ap, ◌∙◌, subst, inl, inr, ⊎_elim, arith, Bor}
+use Rattle.std.proofs.Common.{◌≡◌, ℕ, ◌-◌, ◌<◌, ◌≤◌, ◌⊎◌, Bool, true, false, not, List, [], ◌∷◌, ◌++◌, length, get_or, drop, sym, refl, ap, ◌∙◌, subst, inl, inr, ⊎_elim, arith, Bor}
 use Rattle.std.proofs.lemmas.List.{length-take, length-drop, length_push, get_or_append_left, get_or_push}
 use Rattle.std.proofs.lemmas.Bool.{both_ways, cases_lt}
 use Rattle.rulebook.specs.declared.faults.Fault.{Fault}
 use Rattle.wording.specs.Pieces.{Shows, WordRefused}
 use Rattle.wording.specs.Programmes.{WordAt, WordsBefore, nothing}
-use Rattle.wording.specs.Runs.{separates, Longest, NextWord, bytes_in}
+use Rattle.wording.specs.Runs.{separates, RunTo, Longest, NextWord, bytes_in}
 use Rattle.wording.specs.declared.pieces.Piece.{Piece}
 use Rattle.wording.specs.declared.pieces.Piece.TheVariants.{Name, Figure}
 use Rattle.wording.specs.declared.pieces.Placed.{Placed}
@@ -14,6 +14,27 @@ use Rattle.wording.specs.declared.pieces.Placed.{Placed}
 pub shown_some : (s : List ℕ) (p : Piece) → Shows s p → ((b : Bor (List ℕ)) × (p ≡ Name b)) ⊎ ((b : Bor (List ℕ)) × (v : ℕ) × (p ≡ Figure b v)) → 1 ≤ length s
 shown_some s p h (inl (b, e)) = (subst (Shows s) e h).1.low
 shown_some s p h (inr (b, v, e)) = (subst (Shows s) e h).1.some
+
+-- the bytes up to the first that does not separate, then those up to the first that does
+pub next_found : {P Q : ℕ → Bool → Type 0} (t : List ℕ) (at from past : ℕ) → (0 < at → at < length t → separates (get_or t at 0) ≡ true) → RunTo P t at from → RunTo Q t from past
+    → ((b : ℕ) (r : Bool) → P b r → separates b ≡ not r) → ((b : ℕ) (r : Bool) → Q b r → separates b ≡ r) → NextWord t at from past
+next_found t at from past edge gap word apart within = record { low = gap.low; gap = λ k l h. apart _ false (gap.bytes k l h); word = ⊎_elim (λ l. inl (longest l)) (λ l. inr (omega (arith, word.low, word.high), omega (arith, word.low, word.high))) (cases_lt from (length t)) }
+  where
+    begins : from < length t → separates (get_or t from 0) ≡ false
+    begins l = apart _ true (gap.stops l)
+
+    ends : past < length t → separates (get_or t past 0) ≡ true
+    ends l = within _ true (word.stops l)
+
+    longest : from < length t → Longest t from past
+    longest l =
+        record {
+          some = ⊎_elim (λ h. h) (λ h. let same : past ≡ from = omega (arith, word.low) in absurd (both_ways (separates (get_or t from 0)) (begins l) (subst (λ p. separates (get_or t p 0) ≡ true) same (ends (omega arith))))) (cases_lt from past);
+          within = word.high;
+          bytes = λ k m h. within _ false (word.bytes k m h);
+          before = λ h. ⊎_elim (λ k. apart _ false (gap.bytes (from - 1) (omega arith) (omega arith))) (λ k. let same : at ≡ from = omega (arith, gap.low) in absurd (both_ways (separates (get_or t from 0)) (begins l) (subst (λ p. separates (get_or t p 0) ≡ true) same (edge (omega arith) (omega arith))))) (cases_lt at from);
+          after = ends;
+        }
 
 -- the next word, after those that begin before a place
 module _ (t : List ℕ) (at from past : ℕ) (next : NextWord t at from past) where

@@ -5,12 +5,12 @@ use Rattle.std.specs.Prelude.{◌≡◌, ℕ, ◌-◌, ◌<◌, ◌≤◌, Bool,
 abbrev pub separates : ℕ → Bool
 separates b = b == 32 || b == 10
 
--- from one place to before another, either all bytes separate or none does, and a byte that follows is of the other sort
-pub record Run (t : List ℕ) (separating : Bool) (from past : ℕ) : Type 0 where
+-- from one place to before another a test says no of each byte, and of a byte that follows it says yes
+pub record RunTo (Says : ℕ → Bool → Type 0) (t : List ℕ) (from past : ℕ) : Type 0 where
   pub low : from ≤ past
   pub high : past ≤ length t
-  pub bytes : (k : ℕ) → from ≤ k → k < past → separates (slice_index t k) ≡ separating
-  pub stops : past < length t → separates (slice_index t past) ≡ not separating
+  pub bytes : (k : ℕ) → from ≤ k → k < past → Says (slice_index t k) false
+  pub stops : past < length t → Says (slice_index t past) true
 
 -- a word: at least one byte, none that separates, and no longer run around it
 pub record Longest (t : List ℕ) (from past : ℕ) : Type 0 where

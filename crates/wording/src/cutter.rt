@@ -1,7 +1,7 @@
 // Programme text is cut into its words, one at a call.
 ghost use Rattle.std.specs.Prelude.{◌≡◌, ◌<◌, ◌≤◌, true, length, MatchResult, slice_index};
 ghost use Rattle.wording.specs.Pieces.{PieceTaken, PieceRefused};
-ghost use Rattle.wording.specs.Runs.{separates as separates_at, Run};
+ghost use Rattle.wording.specs.Runs.{separates as separates_at, RunTo};
 
 use super::pieces::Placed;
 use super::reads::piece_of;
@@ -23,17 +23,15 @@ fn separates(byte: u8) -> bool
     matches!(byte, b' ' | b'\n')
 }
 
-// Where the run from a place on ends: of bytes that separate words, or of others.
-fn run_end(text: &[u8], from: usize, separating: bool) -> usize
-    requires { from ≤ length text.now }
-    ensures { Run text.now separating from result }
+// The place of the first byte, from a place on, of which a test says yes, or the end of the text.
+fn run_end<F: Fn(u8) -> bool>(text: &[u8], from: usize, ends: F) -> usize
+    requires within { from ≤ length text.now }
+    requires callable { F.IsAlwaysCallable ends }
+    ensures { RunTo (F.post ends) text.now from result }
 {
-    for at in from..text.len() {
-        if separates(text[at]) != separating {
-            return at;
-        }
-    }
-    text.len()
+    (from..text.len())
+        .find(|at| ends(text[*at]))
+        .unwrap_or(text.len())
 }
 
 impl<'t> Cutter<'t> {
@@ -50,8 +48,8 @@ impl<'t> Cutter<'t> {
         ensures piece { MatchResult result (λ p. PieceTaken self.old.text.now self.old.at self.new.at p) (λ f. (self.new.at ≡ self.old.at) × PieceRefused self.old.text.now self.old.at f) }
     {
         let text = self.text;
-        let from = run_end(text, self.at, true);
-        let past = run_end(text, from, false);
+        let from = run_end(text, self.at, |byte| !separates(byte));
+        let past = run_end(text, from, separates);
         let piece = piece_of(&text[from..past], from)?;
         self.at = past;
         Ok(Placed { piece, place: from })
