@@ -1,5 +1,5 @@
 -- The words of a text: its longest runs of bytes other than space and newline. Places count from 0 here.
-use Rattle.std.specs.Prelude.{◌≡◌, ℕ, ◌-◌, ◌<◌, ◌≤◌, Bool, true, false, not, ◌||◌, ◌⊎◌, List, length, ◌==◌, slice_index, slice_range}
+use Rattle.std.specs.Prelude.{◌≡◌, ℕ, ◌-◌, ◌<◌, ◌≤◌, Bool, true, false, ◌||◌, ◌⊎◌, List, length, ◌==◌, slice_index, slice_range}
 
 -- a space or a newline
 abbrev pub separates : ℕ → Bool

@@ -8,7 +8,7 @@ use super::reads::piece_of;
 use rulebook::Fault;
 
 // The words of a text from a place on; places count from 0. No word goes on across that place.
-#[derive(Drop)]
+#[derive(Debug, Drop)]
 pub struct Cutter<'t> {
     text: &'t [u8],
     at: usize,

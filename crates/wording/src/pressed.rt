@@ -27,25 +27,16 @@ pub struct Matched {
     keys: SymbolSet,
 }
 
-// The set with one key more, if the word matches that key.
-fn with_matched<W: Word>(set: SymbolSet, word: &W, key: u16) -> SymbolSet
-    ensures { (c : ℕ) → has result c ≡ ((key == c && word_of (W.tells word.now) c) || has set c) }
-{
-    if word.matches(key) {
-        set.with(key)
-    } else {
-        set
-    }
-}
-
 impl Matched {
     // The set of keys that a word matches.
     pub fn of<W: Word>(word: &W) -> Matched
         ensures { (c : ℕ) → has result.keys c ≡ word_of (W.tells word.now) c }
     {
         let mut keys = SymbolSet::empty();
-        for key in 33..65 {
-            keys = with_matched(keys, word, key);
+        for key in 33..=64 {
+            if word.matches(key) {
+                keys = keys.with(key);
+            }
         }
         Matched { keys }
     }

@@ -11,7 +11,7 @@ use std::alloc::{AllocError, Global};
 const LONGEST: usize = 4096;
 
 // The words of a text from the front, up to the first question that is answered no.
-#[derive(Drop)]
+#[derive(Debug, PartialEq, Eq, Drop)]
 pub struct Programme<'t> {
     pub words: Vec<Placed<'t>>,
     // the refusal that follows the words, or none where they are all
