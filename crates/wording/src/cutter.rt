@@ -1,11 +1,12 @@
 // Programme text is cut into its words, one at a call.
 ghost use Rattle.std.specs.Prelude.{◌≡◌, ◌<◌, ◌≤◌, true, length, MatchResult, slice_index};
 ghost use Rattle.wording.specs.Pieces.{PieceTaken, PieceRefused};
-ghost use Rattle.wording.specs.Runs.{separates as separates_at, RunTo};
+ghost use Rattle.wording.specs.Runs.{separates as separates_at, RunTo, NextWord};
 
 use super::pieces::Placed;
 use super::reads::piece_of;
 use rulebook::Fault;
+use std::ops::Range;
 
 // The words of a text from a place on; places count from 0. No word goes on across that place.
 #[derive(Debug, Drop)]
@@ -42,14 +43,24 @@ impl<'t> Cutter<'t> {
         Cutter { text, at: 0 }
     }
 
+    // The places of the next word, or an empty range at the end of the text.
+    fn next_range(&self) -> Range<usize>
+        ensures { NextWord self.now.text.now self.now.at result.start result.end }
+    {
+        let from = run_end(self.text, self.at, |byte| !separates(byte));
+        from..run_end(self.text, from, separates)
+    }
+
     // The next word, or the end, which is given again and again; a refused word stays the next.
     pub fn next_piece(&mut self) -> Result<Placed<'t>, Fault>
         ensures text { self.new.text ≡ self.old.text }
         ensures piece { MatchResult result (λ p. PieceTaken self.old.text.now self.old.at self.new.at p) (λ f. (self.new.at ≡ self.old.at) × PieceRefused self.old.text.now self.old.at f) }
     {
         let text = self.text;
-        let from = run_end(text, self.at, |byte| !separates(byte));
-        let past = run_end(text, from, separates);
+        let Range {
+            start: from,
+            end: past,
+        } = self.next_range();
         let piece = piece_of(&text[from..past], from)?;
         self.at = past;
         Ok(Placed { piece, place: from })
