@@ -35,9 +35,10 @@ fn value_of(figures: &[u8]) -> u16
     requires { Figures figures.now }
     ensures { result ≡ written_after 0 figures.now }
 {
+    // A loop, and no fold: that a value fits rests on how many figures came before, which no closure sees.
     let mut value = 0;
     for byte in figures {
-        value = value * 10 + (*byte - b'0') as u16;
+        value = value * 10 + u16::from(*byte - b'0');
     }
     value
 }
