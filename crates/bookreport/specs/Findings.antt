@@ -1,5 +1,5 @@
 -- What is found in a text.
-use Rattle.std.specs.Prelude.{◌≡◌, ℕ, ◌*◌, Bool, cond, ◌⊎◌, List, ◌++◌, length, take, sum_by, codes, decimal, Decides, IsTrue}
+use Rattle.std.specs.Prelude.{◌≡◌, ℕ, ◌*◌, Bool, cond, ◌⊎◌, List, ◌++◌, length, take, sum_by, codes, decimal, IsTrue, ◌↔◌}
 use Rattle.language.specs.Book.{Rule, Meaning}
 use Rattle.language.specs.Sound.{Sound}
 use Rattle.lines.specs.Columns.{told_fault}
@@ -52,7 +52,7 @@ pub record CountsFound (m : Meaning) (d : Findings) : Type 0 where
 -- the findings in the text t: the counts of its book, and whether that is written back as t
 pub record Found (t : List ℕ) (d : Findings) : Type 0 where
   pub counts : CountsFound (text_meaning t) d
-  pub back : Decides d.same (text_of (text_meaning t) ≡ t)
+  pub back : IsTrue d.same ↔ (text_of (text_meaning t) ≡ t)
 
 -- the book of t is written back into a space: the first bytes are t itself, those past them are as they were
 pub record WrittenBack (t was is : List ℕ) : Type 0 where

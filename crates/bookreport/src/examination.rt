@@ -1,5 +1,5 @@
 // A text is read, its book checked and written back.
-ghost use Rattle.std.specs.Prelude.{◌≡◌, ◌*◌, ◌<◌, ◌⊎◌, length, Decides, IsTrue, IfOk, IfErr, MatchResult};
+ghost use Rattle.std.specs.Prelude.{◌≡◌, ◌*◌, ◌<◌, ◌⊎◌, length, IsTrue, IfOk, IfErr, MatchResult};
 ghost use Rattle.soundbook.specs.Sounds.{sound_meaning};
 ghost use Rattle.booktext.specs.Text.{text_meaning};
 ghost use Rattle.booktext.specs.Written.{lines_in, Stands};
@@ -31,7 +31,7 @@ fn symbols_of<B: Book>(book: &B) -> usize
 }
 
 // The sound book of a text, or the first question answered no: those of the text, then those of the book.
-fn sound_book(text: &[u8]) -> Result<SoundBook, Fault>
+pub fn sound_book(text: &[u8]) -> Result<SoundBook, Fault>
     ensures { MatchResult result (λ s. Accepted text.now × (sound_meaning s ≡ text_meaning text.now)) (λ f. RefusedAlone text.now f) }
 {
     let book = TextBook::read(text)?;

@@ -2,11 +2,11 @@
 // each word matches.
 #![tactic(auto)]
 
-use booktext::TextBook;
+use bookreport::sound_book;
 use files::if_present;
 use lines::fault_line;
-use rulebook::{Book, Fault};
-use soundbook::{SoundBook, check, smallest_book};
+use rulebook::Fault;
+use soundbook::SoundBook;
 use std::alloc::{AllocError, Global};
 use std::fs;
 use wording::{Matched, Piece, Placed, Pressed, Spelled, Word, cut};
@@ -84,19 +84,16 @@ fn tell_pressed(rt: &HostRuntime) -> anyhow::Result<()> {
     Ok(())
 }
 
-// The sound book of press.book, or the smallest book and why that text is refused.
-fn book_of(text: &[u8], place: &mut SoundBook) -> Result<(), Fault> {
-    let book = TextBook::read(text)?;
-    check(&book, place)
-}
-
 fn main(rt: HostRuntime) -> anyhow::Result<()> {
     let text = fs::read(&rt, "press.book")?;
-    let mut book = smallest_book();
-    if let Err(fault) = book_of(text.as_slice(), &mut book) {
-        rt.print(fault_line(rt.alloc(), &fault)?)?;
-        return Ok(());
+    match sound_book(text.as_slice()) {
+        Ok(book) => {
+            tell_samples(&rt, &book)?;
+            tell_pressed(&rt)
+        }
+        Err(fault) => {
+            rt.print(fault_line(rt.alloc(), &fault)?)?;
+            Ok(())
+        }
     }
-    tell_samples(&rt, &book)?;
-    tell_pressed(&rt)
 }
