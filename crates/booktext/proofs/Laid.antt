@@ -1,13 +1,13 @@
 -- Fields laid into lines, and lines laid into a space.
-use Rattle.std.proofs.Common.{◌≡◌, ℕ, zero, suc, ◌+◌, ◌-◌, ◌*◌, ◌^◌, ◌<◌, ◌≤◌, min, Bool, cond, ltb, List, [], ◌∷◌, ◌++◌, map, length, get_or, take, drop, set, replicate, Decides, sym, refl, ap, ◌∙◌, arith}
+use Rattle.std.proofs.Common.{◌≡◌, ℕ, zero, suc, ◌+◌, ◌-◌, ◌*◌, ◌^◌, ◌<◌, ◌≤◌, min, cond, ltb, List, [], ◌∷◌, ◌++◌, map, length, get_or, take, drop, set, replicate, Decides, Ok, Err, OnOk, OnErr, Result, is_ok, sym, refl, ap, ◌∙◌, ⊎_elim, arith}
 use borrow.Rule.Slice.PartMut.{put_mid}
 use Rattle.std.specs.List.{range_with_len, flat_map}
 use Rattle.std.proofs.lemmas.List.FromFn.{fill_by_all, length-map-range_with_len}
 use Rattle.std.proofs.lemmas.List.Edits.{paste_all}
 use Rattle.std.proofs.lemmas.List.{append-nil, append_assoc, length-append, length-take, drop_at, drop-drop, set_at, take_more}
 use Rattle.std.proofs.lemmas.Slice.{put_mid-paste}
-use Rattle.std.proofs.lemmas.Bool.{cond_both}
-use Rattle.std.proofs.lemmas.Bool.Decides.{nat_tests, same_from_decides, Decides-like, Decides-ltb}
+use Rattle.std.proofs.lemmas.Bool.{false≢true, cases_lt, cond-true, cond-false, cond_both, lt-ltb, le-ltb}
+use Rattle.std.proofs.lemmas.Bool.Decides.{nat_tests}
 use Rattle.language.specs.Book.{Grammar, Meaning, left, size, symbol}
 use Rattle.language.proofs.Told.{place_inside}
 use Rattle.booktext.specs.Columns.{shown}
@@ -44,10 +44,10 @@ pub boxed_length : (v : ℕ) → length (boxed v) ≡ 4
 unfolding boxed
 boxed_length v = cond_both (ltb v 10000) (shown 4 v) blank (λ f. length f ≡ 4) (λ _. refl) (λ _. refl)
 
-pub boxed_set : (v : ℕ) (r : Bool) (f : List ℕ) → Decides r ((1 ≤ 4) × (v < 10 ^ 4)) → f ≡ cond r (shown 4 v) blank → f ≡ boxed v
+pub boxed_set : {X E : Type 0} (v : ℕ) (r : Result X E) (f : List ℕ) → Decides (is_ok r) ((1 ≤ 4) × (v < 10 ^ 4)) → OnOk r (f ≡ shown 4 v) → OnErr r (f ≡ blank) → f ≡ boxed v
 unfolding boxed
-boxed_set v r f h e =
-    e ∙ ap (λ b. cond b (shown 4 v) blank) (same_from_decides r (ltb v 10000) (Decides-like r (λ p. p.1) (λ l. (omega arith, l)) h) (Decides-ltb v 10000))
+boxed_set v (Ok x) f h set kept = set ∙ sym (cond-true (ltb v 10000) (shown 4 v) blank (lt-ltb v 10000 (h.0 refl).1))
+boxed_set v (Err e) f h set kept = kept ∙ sym (cond-false (ltb v 10000) (shown 4 v) blank (le-ltb v 10000 (⊎_elim (λ l. absurd (false≢true (h.1 (omega arith, l)))) (λ l. l) (cases_lt v 10000))))
 
 -- all fields have four columns
 abbrev pub Fours : List (List ℕ) → Type 0

@@ -1,6 +1,6 @@
 -- Four columns and the number that they show.
-use Rattle.std.proofs.Common.{◌≡◌, ℕ, suc, ◌+◌, ◌-◌, ◌*◌, ◌/◌, ◌%◌, ◌<◌, ◌≤◌, true, eqb, List, [], ◌∷◌, ◌++◌, length, get_or, take, drop, set, replicate, Some, None, Option, unwrap_or, sym, refl, ap, ◌∙◌, subst, ⊎_elim, add-one, arith, MatchOption}
-use Rattle.std.proofs.lemmas.List.{append_assoc, drop-set, drop_all, length-set, take_more, take_all, replicate_more, get_or-replicate}
+use Rattle.std.proofs.Common.{◌≡◌, ℕ, suc, ◌+◌, ◌-◌, ◌*◌, ◌/◌, ◌%◌, ◌<◌, true, eqb, List, [], ◌∷◌, ◌++◌, length, get_or, drop, set, Some, None, Option, unwrap_or, sym, refl, ap, ◌∙◌, subst, ⊎_elim, add-one, arith, MatchOption}
+use Rattle.std.proofs.lemmas.List.{append_assoc, drop-set, drop_all, length-set}
 use Rattle.std.proofs.lemmas.Bool.{false≢true, eqb-true, eq-eqb, and_parts, and_from, cond-true, cond-false, cases_Bool}
 use Rattle.std.proofs.lemmas.Bool.Decides.{nat_tests}
 use Rattle.booktext.specs.Columns.{mark, lead, shown, same, weighed, value}
@@ -75,24 +75,6 @@ lead_more xs i j m b v e h is was =
     ∙ (sym (append_assoc (lead j (m / 10)) (mark m ∷ []) (drop (suc j) xs))
     ∙ (ap (λ n. lead n m ++ drop n xs) e
     ∙ (was ∙ ap (λ n. shown n v) (sym (length-set xs j b)))))
-
--- one more blank column
-pub blank_more : (xs : List ℕ) (i : ℕ) → i < length xs → take i xs ≡ replicate i 32 → get_or xs i 0 ≡ 32 → take (i + 1) xs ≡ replicate (i + 1) 32
-blank_more xs i h was is =
-    let more = take_more xs i 0 h in
-    let fill = replicate_more {X = ℕ} i 32 in
-    cc
-
--- all columns blank
-pub blank_all : (xs : List ℕ) (i : ℕ) → length xs ≤ i → i ≤ length xs → take i xs ≡ replicate i 32 → xs ≡ replicate (length xs) 32
-blank_all xs i h l was =
-    let all = take_all i xs h in
-    let n : i ≡ length xs = omega arith in
-    cc
-
--- a column of blank columns
-pub blank_at : (xs : List ℕ) (i n : ℕ) → i < n → xs ≡ replicate n 32 → get_or xs i 0 ≡ 32
-blank_at xs i n h e = ap (λ l. get_or l i 0) e ∙ get_or-replicate n i 32 0 h
 
 -- what the columns are read as is their value
 pub value_read : (f : List ℕ) (o : Option ℕ) → MatchOption o ((v : ℕ) → v < 10000 → shown 4 v ≡ f → ⊥) (λ v. (v < 10000) × (shown 4 v ≡ f)) → unwrap_or o 0 ≡ value f

@@ -1,7 +1,7 @@
 -- Columns of a text, and the bytes before the first space.
-use Rattle.std.proofs.Common.{◌≡◌, ℕ, suc, ◌+◌, ◌-◌, ◌<◌, ◌≤◌, min, Bool, true, false, not, eqb, List, [], ◌∷◌, ◌++◌, length, get_or, take, drop, Decides, sym, ap, ◌∙◌, subst, ⊎_elim, arith}
-use Rattle.std.proofs.lemmas.List.{append-nil, append_assoc, take_all, take_more, drop_all, at_drop_more, at_drop_all, length-drop, length-take}
-use Rattle.std.proofs.lemmas.Bool.{false≢true, both_ways, not_from_true, cases_lt, cond-true, cond-false, cond_both, eq-eqb, ne_eqb}
+use Rattle.std.proofs.Common.{◌≡◌, ℕ, suc, ◌+◌, ◌-◌, ◌<◌, ◌≤◌, min, Bool, true, false, not, eqb, List, [], ◌∷◌, length, get_or, take, drop, Decides, sym, refl, ap, ◌∙◌, subst, ⊎_elim, arith}
+use Rattle.std.proofs.lemmas.List.{take_all, drop_all, length-drop, length-take}
+use Rattle.std.proofs.lemmas.Bool.{false≢true, both_ways, not_from_true, cases_lt, cond_both}
 use Rattle.booktext.specs.Columns.{Blank}
 use Rattle.booktext.specs.Form.{Spelling}
 use Rattle.booktext.specs.Text.{spelled, spelling_field}
@@ -20,22 +20,10 @@ columns_are xs from count first past e p = ⊎_elim
     (λ h. ap (take (past - first)) (drop_all first xs (omega arith)) ∙ (take_all (past - first) [] (omega arith) ∙ sym (ap (take count) (drop_all from xs (omega arith)) ∙ take_all count [] (omega arith))))
     (cases_lt from (length xs))
 
-module _ (xs : List ℕ) (i : ℕ) (was : take i xs ++ spelled (drop i xs) ≡ spelled xs) where
-  -- the spelling ends before a space
-  pub spelled_stop : i < length xs → get_or xs i 0 ≡ 32 → take i xs ≡ spelled xs
-  spelled_stop h e =
-      sym (append-nil (take i xs)) ∙ (ap (λ t. take i xs ++ t) (sym (at_drop_more spelled xs i 0 h ∙ cond-true _ _ _ (eq-eqb _ 32 e))) ∙ was)
-
-  -- the spelling goes on past another byte
-  pub spelled_more : i < length xs → (get_or xs i 0 ≡ 32 → ⊥) → take (i + 1) xs ++ spelled (drop (i + 1) xs) ≡ spelled xs
-  spelled_more h e =
-      ap (λ t. t ++ spelled (drop (i + 1) xs)) (take_more xs i 0 h)
-      ∙ (append_assoc (take i xs) (get_or xs i 0 ∷ []) (spelled (drop (i + 1) xs))
-      ∙ (ap (λ t. take i xs ++ t) (sym (at_drop_more spelled xs i 0 h ∙ cond-false _ _ _ (ne_eqb _ 32 e))) ∙ was))
-
-  -- no space at all
-  pub spelled_all : length xs ≤ i → xs ≡ spelled xs
-  spelled_all h = sym (take_all i xs h) ∙ (sym (append-nil (take i xs)) ∙ (ap (λ t. take i xs ++ t) (sym (at_drop_all spelled xs i h)) ∙ was))
+-- the spelling is the front of its columns
+pub spelled_front : (xs : List ℕ) → take (length (spelled xs)) xs ≡ spelled xs
+spelled_front [] = refl
+spelled_front (b ∷ xs) = cond_both _ [] (b ∷ spelled xs) (λ z. take (length z) (b ∷ xs) ≡ z) (λ _. refl) (λ _. ap (λ z. b ∷ z) (spelled_front xs))
 
 pub spelled_short : (xs : List ℕ) → length (spelled xs) ≤ length xs
 spelled_short [] = omega arith

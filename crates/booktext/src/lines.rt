@@ -36,10 +36,6 @@ pub(super) fn spelling_field(middle: &[u8]) -> &[u8]
 pub(super) fn spelled(columns: &[u8]) -> &[u8]
     ensures { result.now ≡ spelled_in columns.now }
 {
-    for (i, byte) in columns.iter().enumerate() {
-        if *byte == b' ' {
-            return &columns[0..i];
-        }
-    }
-    columns
+    let space = columns.iter().position(|byte| *byte == b' ');
+    &columns[..space.unwrap_or(columns.len())]
 }

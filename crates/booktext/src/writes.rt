@@ -12,7 +12,8 @@ fn field_of(number: u16) -> [u8; 4]
     ensures { result ≡ boxed number }
 {
     let mut field = [b' '; 4];
-    set_right(&mut field, number);
+    // What is too wide leaves the field blank.
+    let _ = set_right(&mut field, number);
     field
 }
 
