@@ -112,15 +112,15 @@ key_shape : (a b t u : List ℕ) → line_of 75 (a ∷ b ∷ (t ++ u) ∷ []) �
 key_shape a b t u = simp (append_assoc, append-nil)
 
 -- one byte more
-pub spread_more : (a b s line : List ℕ) (n byte : ℕ) → length a ≡ 4 → length b ≡ 4 → n < length s → n < 24 → byte ≡ get_or s n 0 → line ≡ line_of 75 (a ∷ b ∷ spread_to n s ∷ []) → set line (9 + n) byte ≡ line_of 75 (a ∷ b ∷ spread_to (n + 1) s ∷ [])
-spread_more a b s line n byte ea eb l m is e =
+pub spread_more : (a b s line : List ℕ) (n k byte : ℕ) → length a ≡ 4 → length b ≡ 4 → n < length s → n < 24 → k ≡ n → byte ≡ get_or s n 0 → line ≡ line_of 75 (a ∷ b ∷ spread_to n s ∷ []) → set line (9 + k) byte ≡ line_of 75 (a ∷ b ∷ spread_to (n + 1) s ∷ [])
+spread_more a b s line n k byte ea eb l m same is e =
     let rest : List ℕ = replicate (24 - (n + 1)) 32 in
     let count : 24 - n ≡ suc (24 - (n + 1)) = omega arith in
-    let blanks : replicate (24 - n) 32 ≡ 32 ∷ rest = ap (λ k. replicate k 32) count in
-    let front : length (75 ∷ (a ++ (b ++ take n s))) ≡ 9 + n = omega (arith, length-append a (b ++ take n s), length-append b (take n s), length-take n s) in
+    let blanks : replicate (24 - n) 32 ≡ 32 ∷ rest = ap (λ m. replicate m 32) count in
+    let front : length (75 ∷ (a ++ (b ++ take n s))) ≡ 9 + k = omega (arith, length-append a (b ++ take n s), length-append b (take n s), length-take n s) in
     let more : take n s ++ (byte ∷ []) ≡ take (n + 1) s = ap (λ x. take n s ++ (x ∷ [])) is ∙ sym (take_more s n 0 l) in
-    ap (λ z. set z (9 + n) byte) (e ∙ (key_shape a b (take n s) (replicate (24 - n) 32) ∙ ap (λ u. (75 ∷ (a ++ (b ++ take n s))) ++ (u ++ (10 ∷ []))) blanks))
-    ∙ (set_at (75 ∷ (a ++ (b ++ take n s))) 32 (rest ++ (10 ∷ [])) byte (9 + n) front
+    ap (λ z. set z (9 + k) byte) (e ∙ (key_shape a b (take n s) (replicate (24 - n) 32) ∙ ap (λ u. (75 ∷ (a ++ (b ++ take n s))) ++ (u ++ (10 ∷ []))) blanks))
+    ∙ (set_at (75 ∷ (a ++ (b ++ take n s))) 32 (rest ++ (10 ∷ [])) byte (9 + k) front
     ∙ (reshape a b (take n s) (rest ++ (10 ∷ [])) byte
     ∙ (ap (λ t. (75 ∷ (a ++ (b ++ t))) ++ (rest ++ (10 ∷ []))) more ∙ sym (key_shape a b (take (n + 1) s) rest)))) where
       reshape : (a b t u : List ℕ) (x : ℕ) → (75 ∷ (a ++ (b ++ t))) ++ (x ∷ u) ≡ (75 ∷ (a ++ (b ++ (t ++ (x ∷ []))))) ++ u

@@ -4,8 +4,7 @@ use Rattle.std.proofs.lemmas.Bool.{cases_lt, cond-true, cond-false, lt-ltb, le-l
 use Rattle.std.proofs.lemmas.List.FromFn.{length-map-range_with_len}
 use Rattle.language.specs.Book.{norule, noform, rule, left, size, symbol, form, kind, spelling}
 use Rattle.language.proofs.Told.{rule_inside, rule_outside, form_inside, form_outside, place_inside, place_outside}
-use Rattle.booktext.specs.Columns.{value}
-use Rattle.booktext.specs.Text.{Lined, field_of, number_at, number_on, rule_at, form_at, spelled, middle_of, spelling_field, text_meaning}
+use Rattle.booktext.specs.Text.{Lined, number_at, number_on, rule_at, form_at, spelled, middle_of, spelling_field, text_meaning}
 
 module _ (t : List ℕ) where
   -- the rule and the key form in the line that was found

@@ -48,7 +48,7 @@ pub(super) fn is_blank(columns: &[u8]) -> bool
     columns.iter().all(|byte| *byte == b' ')
 }
 
-// Whether so many columns hold all the figures of a number.
+// Whether so many columns hold all the figures of a number, one more than its logarithm.
 fn fits(number: u16, columns: usize) -> bool
     ensures { IsTrue result ↔ ((1 ≤ columns) × (number < 10 ^ columns)) }
 {
@@ -78,7 +78,7 @@ pub fn set_right(columns: &mut [u8], number: u16) -> Result<(), TooWide>
     let last = columns.len() - 1;
     columns[last] = b'0' + (number % 10) as u8;
     let mut rest = number / 10;
-    // By index: after `iter_mut` no proof knows what the columns hold.
+    // By index: after `iter_mut` a proof does not know what the columns hold.
     for i in (0..last).rev() {
         columns[i] = mark(rest);
         rest /= 10;

@@ -10,8 +10,8 @@ loop-at-init g c = two_laid 75 _ _ _ _ _ _ _ c.blank_line-line.ensures refl c.se
 pub loop-at-preserved : goal.loop-at-preserved
 loop-at-preserved g c =
     let m = (g.B.Book.meaning c.args.book.now).forms in
-    spread_more (boxed c.args.key) (boxed (kind m c.args.key)) (spelling m c.args.key) c.loop-at.line c.loop-at.at c.spelling_byte.result
-    (boxed_length _) (boxed_length _) (omega (arith, c.min-at-end.ensures, c.spelling_len.ensures)) (omega (arith, c.min-at-end.ensures)) c.spelling_byte.ensures c.loop-at.invariant
+    spread_more (boxed c.args.key) (boxed (kind m c.args.key)) (spelling m c.args.key) c.loop-at.line c.loop-at.at c.from.result c.spelling_byte.result
+    (boxed_length _) (boxed_length _) (omega (arith, c.min-at-end.ensures, c.spelling_len.ensures)) (omega (arith, c.min-at-end.ensures)) c.from.ensures c.spelling_byte.ensures c.loop-at.invariant
 
 pub returns : goal.returns
 returns g c =
