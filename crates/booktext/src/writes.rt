@@ -1,5 +1,5 @@
 // Writing: each line of a book is made by itself and then set in its place.
-ghost use Rattle.std.specs.Prelude.{◌≡◌, ℕ, ◌+◌, ◌*◌, ◌^◌, ◌<◌, ◌≤◌, List, [], ◌∷◌, length, MatchResult};
+ghost use Rattle.std.specs.Prelude.{◌≡◌, ℕ, ◌+◌, ◌-◌, ◌*◌, ◌<◌, ◌≤◌, List, [], ◌∷◌, length, MatchResult};
 ghost use Rattle.std.specs.List.{range_with_len, flat_map};
 ghost use Rattle.soundbook.specs.Sounds.{sound_meaning};
 ghost use Rattle.booktext.specs.Written.{put, boxed, blank, line_of, head_line, rule_line, key_line, rules_text, keys_text, lines_in, Makes, Stands};
@@ -7,6 +7,7 @@ ghost use Rattle.booktext.specs.Written.{put, boxed, blank, line_of, head_line, 
 use super::fields::set_right;
 use rulebook::{Book, Fault};
 use soundbook::SoundBook;
+use std::ops::Range;
 
 // The field of a number, or a blank one if the number has more than four figures.
 fn field_of(number: u16) -> [u8; 4]
@@ -84,24 +85,24 @@ fn key_line<B: Book>(book: &B, key: u16) -> [u8; 34]
     line
 }
 
-// Sets the lines of a book that are made of so many numbers from one on, one after another; lines count from 0.
+// Sets the lines that are made of some numbers, one after another from a line of the space on.
 fn set_lines<B: Book, F: Fn(&B, u16) -> [u8; 34]>(
     book: &B,
     space: &mut [u8],
     top: usize,
-    first: u16,
-    count: u16,
+    numbers: Range<u16>,
     line: F,
 )
     requires callable { F.IsAlwaysCallable line }
-    requires numbers { first + count ≤ 2 ^ 16 }
-    requires room { 34 * (top + count) ≤ length space.old }
+    requires upward { numbers.start ≤ numbers.end }
+    requires room { 34 * (top + (numbers.end - numbers.start)) ≤ length space.old }
     ensures { (f : ℕ → List ℕ)
         → Makes (λ n l. (b : _) × F.post line b n l × (b.now ≡ book.now)) f
-        → space.new ≡ put space.old (34 * top) (flat_map f (range_with_len first count)) }
+        → space.new ≡ put space.old (34 * top) (flat_map f (range_with_len numbers.start (numbers.end - numbers.start))) }
 {
-    for i in 0..count {
-        put(space, 34 * (top + usize::from(i)), &line(book, first + i));
+    for number in numbers.start..numbers.end {
+        let place = top + usize::from(number - numbers.start);
+        put(space, 34 * place, &line(book, number));
     }
 }
 
@@ -121,14 +122,8 @@ pub fn write(book: &SoundBook, space: &mut [u8]) -> Result<usize, Fault>
         return Err(Fault::SpaceShort);
     }
     put(space, 0, &head_line(book));
-    set_lines(book, space, 1, 1, book.rules(), rule_line);
-    set_lines(
-        book,
-        space,
-        1 + usize::from(book.rules()),
-        33,
-        book.keys(),
-        key_line,
-    );
+    set_lines(book, space, 1, 1..1 + book.rules(), rule_line);
+    let top = 1 + usize::from(book.rules());
+    set_lines(book, space, top, 33..33 + book.keys(), key_line);
     Ok(len)
 }
