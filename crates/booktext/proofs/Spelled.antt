@@ -1,6 +1,6 @@
 -- Columns of a text, and the bytes before the first space.
-use Rattle.std.proofs.Common.{◌≡◌, ℕ, suc, ◌+◌, ◌-◌, ◌<◌, ◌≤◌, min, Bool, true, false, not, eqb, List, [], ◌∷◌, length, get_or, take, drop, Decides, sym, refl, ap, ◌∙◌, subst, ⊎_elim, arith}
-use Rattle.std.proofs.lemmas.List.{take_all, drop_all, length-drop, length-take}
+use Rattle.std.proofs.Common.{◌≡◌, ℕ, suc, ◌<◌, ◌≤◌, min, Bool, true, false, not, eqb, List, [], ◌∷◌, length, get_or, take, drop, Decides, sym, refl, ap, ◌∙◌, subst, ⊎_elim, arith}
+use Rattle.std.proofs.lemmas.List.{take_all, length-take}
 use Rattle.std.proofs.lemmas.Bool.{false≢true, both_ways, not_from_true, cases_lt, cond_both}
 use Rattle.booktext.specs.Columns.{Blank}
 use Rattle.booktext.specs.Form.{Spelling}
@@ -11,14 +11,6 @@ take_min ys n k e = ⊎_elim
     (λ h. ap (λ m. take m ys) (omega arith))
     (λ h. take_all k ys (omega arith) ∙ sym (take_all n ys (omega arith)))
     (cases_lt n (length ys))
-
--- as many of the columns from a place on as the text has
-pub columns_are : (xs : List ℕ) (from count first past : ℕ) → first ≡ min from (length xs) → past ≡ first + min count (length xs - first) → take (past - first) (drop first xs) ≡ take count (drop from xs)
-columns_are xs from count first past e p = ⊎_elim
-    (λ h. let same : first ≡ from = omega arith in
-    take_min (drop first xs) count (past - first) (omega (arith, length-drop first xs)) ∙ ap (λ n. take count (drop n xs)) same)
-    (λ h. ap (take (past - first)) (drop_all first xs (omega arith)) ∙ (take_all (past - first) [] (omega arith) ∙ sym (ap (take count) (drop_all from xs (omega arith)) ∙ take_all count [] (omega arith))))
-    (cases_lt from (length xs))
 
 -- the spelling is the front of its columns
 pub spelled_front : (xs : List ℕ) → take (length (spelled xs)) xs ≡ spelled xs

@@ -6,9 +6,8 @@ ghost use Rattle.booktext.specs.Text.{middle_of, field_of, spelling_field, spell
 fn columns(text: &[u8], from: usize, count: usize) -> &[u8]
     ensures { result.now ≡ take count (drop from text.now) }
 {
-    let first = from.min(text.len());
-    let past = first + count.min(text.len() - first);
-    &text[first..past]
+    let rest = text.get(from..).unwrap_or(&[]);
+    &rest[..count.min(rest.len())]
 }
 
 // The columns of a line; lines count from 0.

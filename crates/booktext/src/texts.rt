@@ -36,7 +36,7 @@ impl TextBook<'_> {
     fn rule_line(&self, rule: u16) -> Option<u32>
         ensures { Lined rule 1 (number_at self.now.text.now 0 3) 1 result }
     {
-        let place = place_of(rule, 1, self.number_at(0, 3))?;
+        let place = place_of(rule, 1, self.rules())?;
         Some(1 + u32::from(place))
     }
 
@@ -44,8 +44,8 @@ impl TextBook<'_> {
     fn key_line(&self, key: u16) -> Option<u32>
         ensures { Lined key 33 (number_at self.now.text.now 0 1) (1 + number_at self.now.text.now 0 3) result }
     {
-        let place = place_of(key, 33, self.number_at(0, 1))?;
-        Some(1 + u32::from(self.number_at(0, 3)) + u32::from(place))
+        let place = place_of(key, 33, self.keys())?;
+        Some(1 + u32::from(self.rules()) + u32::from(place))
     }
 
     // The spelling of a key.
