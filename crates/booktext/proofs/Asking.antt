@@ -82,18 +82,14 @@ module _ (f : ℕ → List Question) where
   loop_end a z j e p = subst (λ n. AllYes (flat_map f (range_with_len a n))) e p
 
 -- a field that was read
-module _ (n j : ℕ) (e : Fault) (form : e ≡ FieldForm (n + 1) (2 + 4 * j)) (g f : List ℕ) (at : g ≡ f) where
-  pub number_asked : (o : Option ℕ) → options.MatchOption o ((v : ℕ) → v < 10000 → shown 4 v ≡ g → ⊥) (λ v. (v < 10000) × (shown 4 v ≡ g)) → Asked (asks_number n j f ∷ []) (ok_or o e)
-  number_asked None h = inl ((λ (v, l, s). h v l (s ∙ sym at)), form)
-  number_asked (Some v) h = ((v, h.0, h.1 ∙ at), tt)
-
-  -- a field that was tried
-  pub blank_no : (b : Bool) → b ≡ false → Decides b (Blank g) → FirstNo (asks_blank n j f ∷ []) e
-  blank_no b is h = inl ((λ y. not_from_Decides b h is (subst Blank (sym at) y)), form)
-
 pub number_made : (g f : List ℕ) (o : Option ℕ) (e : Fault) → g ≡ f → options.MatchOption o ((v : ℕ) → v < 10000 → shown 4 v ≡ g → ⊥) (λ v. (v < 10000) × (shown 4 v ≡ g)) → IfOk (ok_or o e) (λ v. v ≡ value f)
 number_made g f None e at h = tt
 number_made g f (Some v) e at h = value_read g (Some v) h ∙ ap value at
 
-pub blank_yes : (n j : ℕ) (g f : List ℕ) (b : Bool) → g ≡ f → b ≡ true → Decides b (Blank g) → AllYes (asks_blank n j f ∷ [])
-blank_yes n j g f b at is h = (subst Blank at (h.0 is), tt)
+-- a field that was tried
+module _ (n j : ℕ) (g f : List ℕ) (b : Bool) (at : g ≡ f) (h : Decides b (Blank g)) where
+  pub blank_yes : b ≡ true → AllYes (asks_blank n j f ∷ [])
+  blank_yes is = (subst Blank at (h.0 is), tt)
+
+  pub blank_no : (e : Fault) → e ≡ FieldForm (n + 1) (2 + 4 * j) → b ≡ false → FirstNo (asks_blank n j f ∷ []) e
+  blank_no e form is = inl ((λ y. not_from_Decides b h is (subst Blank (sym at) y)), form)

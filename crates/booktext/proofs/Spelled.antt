@@ -24,18 +24,3 @@ spelled_short (b ∷ xs) = cond_both (eqb b 32) [] (b ∷ spelled xs) (λ s. len
 -- a spelling in its columns is no longer than these
 pub spelling_short : (m : List ℕ) → length (spelled (spelling_field m)) ≤ 24
 spelling_short m = omega (arith, spelled_short (spelling_field m), length-take 24 (drop 8 m))
-
--- a spelling without a newline: whether the rest is blank decides
-pub spelling_decided : (xs s rest : List ℕ) (b : Bool) → s ≡ spelled xs → rest ≡ drop (length s) xs → ((k : ℕ) → k < length s → get_or s k 0 ≡ 10 → false ≡ true) → Decides b (Blank rest) → Decides b (Spelling xs)
-spelling_decided xs s rest b e at none h = (
-  (λ t. record {
-    bytes = λ k l n. false≢true (none k (subst (λ z. k < length z) (sym e) l) (ap (λ z. get_or z k 0) e ∙ n));
-    rest = subst Blank (at ∙ ap (λ z. drop (length z) xs) e) (h.0 t);
-  }),
-  (λ f. h.1 (subst Blank (sym (at ∙ ap (λ z. drop (length z) xs) e)) f.rest)),
-)
-
--- a newline in the spelling decides
-pub newline_spelled : (xs s : List ℕ) (b : Bool) (k : ℕ) → s ≡ spelled xs → k < length s → get_or s k 0 ≡ 10 → b ≡ true → Decides (not b) (Spelling xs)
-newline_spelled xs s b k e l n t =
-    ((λ f. absurd (both_ways (not b) (not_from_true b t) f)), (λ f. absurd (f.bytes k (subst (λ z. k < length z) e l) (ap (λ z. get_or z k 0) (sym e) ∙ n))))

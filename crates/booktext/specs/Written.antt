@@ -43,7 +43,7 @@ spread s = take 24 s ++ replicate (24 - length s) 32
 abbrev pub key_line : List KeyForm → ℕ → List ℕ
 key_line fs c = line_of 75 (boxed c ∷ boxed (kind fs c) ∷ spread (spelling fs c) ∷ [])
 
--- what is made of each number n is the line f n
+-- what is made of each number n is f n, a line of 34 bytes
 pub record Makes (made : ℕ → List ℕ → Type 0) (f : ℕ → List ℕ) : Type 0 where
   pub line : (n : ℕ) (l : List ℕ) → n < 2 ^ 16 → made n l → l ≡ f n
   pub wide : (n : ℕ) → length (f n) ≡ 34
