@@ -7,7 +7,7 @@ use Rattle.std.proofs.lemmas.Bool.Decides.{not_from_Decides}
 use Rattle.rulebook.specs.declared.faults.Fault.{Fault}
 use Rattle.rulebook.specs.declared.faults.Fault.TheVariants.{FieldForm}
 use Rattle.booktext.specs.Columns.{Blank, shown, value}
-use Rattle.booktext.specs.Form.{Question, asks_number, asks_blank, Holds, fault_of, AllYes, FirstNo, Asked}
+use Rattle.booktext.specs.Form.{Question, asks_blank, Holds, fault_of, AllYes, FirstNo, Asked}
 use Rattle.booktext.proofs.Shown.{value_read}
 
 pub yes_append : (p q : List Question) → AllYes p → AllYes q → AllYes (p ++ q)

@@ -1,8 +1,7 @@
 -- A line that is cut from a text: its letter, its newline, and the columns between them.
-use Rattle.std.proofs.Common.{◌≡◌, ℕ, ◌+◌, ◌-◌, ◌*◌, ◌<◌, min, List, [], ◌∷◌, ◌++◌, length, get_or, take, drop, IsErrAnd, Result, sym, ap, ◌∙◌, subst, inl, inr, arith}
+use Rattle.std.proofs.Common.{◌≡◌, ℕ, ◌+◌, ◌-◌, ◌*◌, ◌<◌, min, List, [], ◌∷◌, ◌++◌, length, get_or, take, drop, IsErrAnd, Result, sym, ap, ◌∙◌, subst, inr, arith}
 use Rattle.std.proofs.lemmas.List.{take_all, length-drop, get_or-take, get_or-drop, take-take, drop-take, drop-drop}
 use Rattle.rulebook.specs.declared.faults.Fault.{Fault}
-use Rattle.rulebook.specs.declared.faults.Fault.TheVariants.{LineMark}
 use Rattle.booktext.specs.Columns.{value}
 use Rattle.booktext.specs.Text.{middle_of, field_of}
 use Rattle.booktext.specs.Form.{Question, asks_mark, asks_number, AllYes, FirstNo, Asked, numbers, blanks, marks, rule_fields}
@@ -38,10 +37,6 @@ module _ (t xs : List ℕ) (n : ℕ) (cut : xs ≡ take 34 (drop (34 * n) t)) wh
   module _ (letter : ℕ) (fields : ℕ → List ℕ → List Question) where
     abbrev pub asked : List Question
     asked = marks letter n t ++ fields n (middle_of t n)
-
-    -- another letter
-    pub line_letter : (e : Fault) → (get_or xs 0 0 ≡ letter → ⊥) → e ≡ LineMark (n + 1) 1 → FirstNo asked e
-    line_letter e other is = inl ((λ h. other (first ∙ h)), is)
 
     -- the letter, and no newline
     pub line_newline : {X : Type 0} (r : Result X Fault) (e : Fault) → get_or xs 0 0 ≡ letter → FirstNo (asks_mark n 34 10 (get_or rest 32 0) ∷ []) e → IsErrAnd r (λ y. y ≡ e) → Asked asked r

@@ -8,10 +8,10 @@ use Rattle.std.proofs.lemmas.List.{append-nil, append_assoc, length-append, leng
 use Rattle.std.proofs.lemmas.Slice.{put_mid-paste}
 use Rattle.std.proofs.lemmas.Bool.{false≢true, cases_lt, cond-true, cond-false, cond_both, lt-ltb, le-ltb}
 use Rattle.std.proofs.lemmas.Bool.Decides.{nat_tests}
-use Rattle.language.specs.Book.{Grammar, Meaning, left, size, symbol}
+use Rattle.language.specs.Book.{Grammar, KeyForm, Meaning, left, size, symbol, kind, spelling}
 use Rattle.language.proofs.Told.{place_inside}
 use Rattle.booktext.specs.Columns.{shown}
-use Rattle.booktext.specs.Written.{put, blank, boxed, line_of, head_line, symbol_field, rule_line, spread}
+use Rattle.booktext.specs.Written.{put, blank, boxed, line_of, head_line, symbol_field, rule_line, key_line, spread}
 use Rattle.booktext.proofs.Spelled.{take_min}
 
 -- what a copy into a part leaves
@@ -126,7 +126,7 @@ spread_more a b s line n k byte ea eb l m same is e =
       reshape : (a b t u : List ℕ) (x : ℕ) → (75 ∷ (a ++ (b ++ t))) ++ (x ∷ u) ≡ (75 ∷ (a ++ (b ++ (t ++ (x ∷ []))))) ++ u
       reshape a b t u x = simp append_assoc
 
-pub spread_all : (s : List ℕ) (n : ℕ) → n ≡ min (length s) 24 → spread_to n s ≡ spread s
+spread_all : (s : List ℕ) (n : ℕ) → n ≡ min (length s) 24 → spread_to n s ≡ spread s
 spread_all s n e =
     let blanks : 24 - n ≡ 24 - length s = omega arith in
     ap (λ t. t ++ replicate (24 - n) 32) (take_min s 24 n (omega arith)) ∙ ap (λ k. take 24 s ++ replicate k 32) blanks
@@ -165,3 +165,7 @@ rule_more g r n v was is l e same at =
 
 pub rule_all : (g : Grammar) (r n : ℕ) (line : List ℕ) → n ≡ min (size g r) 6 → line ≡ line_of 82 (rule_to g r n) → line ≡ rule_line g r
 rule_all g r n line e is = is ∙ ap (λ fs. line_of 82 (boxed (left g r) ∷ boxed (size g r) ∷ fs)) (symbols_all g r (size g r) n e)
+
+-- all of a spelling told, in the line of key c
+pub key_all : (fs : List KeyForm) (c n : ℕ) (line : List ℕ) → n ≡ min (length (spelling fs c)) 24 → line ≡ line_of 75 (boxed c ∷ boxed (kind fs c) ∷ spread_to n (spelling fs c) ∷ []) → line ≡ key_line fs c
+key_all fs c n line e is = is ∙ ap (λ s. line_of 75 (boxed c ∷ boxed (kind fs c) ∷ s ∷ [])) (spread_all (spelling fs c) n e)

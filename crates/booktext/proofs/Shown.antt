@@ -1,9 +1,8 @@
 -- Four columns and the number that they show.
-use Rattle.std.proofs.Common.{◌≡◌, ℕ, suc, ◌+◌, ◌-◌, ◌*◌, ◌/◌, ◌%◌, ◌<◌, true, eqb, List, [], ◌∷◌, ◌++◌, length, get_or, drop, set, Some, None, Option, unwrap_or, sym, refl, ap, ◌∙◌, subst, ⊎_elim, add-one, arith, MatchOption}
-use Rattle.std.proofs.lemmas.List.{append_assoc, drop-set, drop_all, length-set}
+use Rattle.std.proofs.Common.{◌≡◌, ℕ, ◌+◌, ◌-◌, ◌*◌, ◌/◌, ◌%◌, ◌<◌, true, eqb, List, [], ◌∷◌, Some, None, Option, unwrap_or, sym, refl, ap, ◌∙◌, ⊎_elim, arith, MatchOption}
 use Rattle.std.proofs.lemmas.Bool.{false≢true, eqb-true, eq-eqb, and_parts, and_from, cond-true, cond-false, cases_Bool}
 use Rattle.std.proofs.lemmas.Bool.Decides.{nat_tests}
-use Rattle.booktext.specs.Columns.{mark, lead, shown, same, weighed, value}
+use Rattle.booktext.specs.Columns.{mark, shown, same, weighed, value}
 
 -- a column weighs the last figure of the number up to it
 pub mark_weighs : (m : ℕ) → mark m - 48 ≡ m % 10

@@ -1,9 +1,7 @@
 -- Columns of a text, and the bytes before the first space.
-use Rattle.std.proofs.Common.{◌≡◌, ℕ, suc, ◌<◌, ◌≤◌, min, Bool, true, false, not, eqb, List, [], ◌∷◌, length, get_or, take, drop, Decides, sym, refl, ap, ◌∙◌, subst, ⊎_elim, arith}
+use Rattle.std.proofs.Common.{◌≡◌, ℕ, suc, ◌≤◌, min, eqb, List, [], ◌∷◌, length, take, drop, sym, refl, ap, ◌∙◌, ⊎_elim, arith}
 use Rattle.std.proofs.lemmas.List.{take_all, length-take}
-use Rattle.std.proofs.lemmas.Bool.{false≢true, both_ways, not_from_true, cases_lt, cond_both}
-use Rattle.booktext.specs.Columns.{Blank}
-use Rattle.booktext.specs.Form.{Spelling}
+use Rattle.std.proofs.lemmas.Bool.{cases_lt, cond_both}
 use Rattle.booktext.specs.Text.{spelled, spelling_field}
 
 pub take_min : (ys : List ℕ) (n k : ℕ) → k ≡ min n (length ys) → take k ys ≡ take n ys

@@ -1,7 +1,7 @@
 use Rattle.std.proofs.Common.{◌≡◌, ℕ, ◌+◌, List, ◌++◌, get_or, subst, arith, rules}
 use Rattle.booktext.specs.Text.{middle_of}
-use Rattle.booktext.specs.Form.{Question, Asked, FirstNo, marks, key_fields}
-use Rattle.booktext.proofs.Cut.{line_letter, line_newline, line_fields}
+use Rattle.booktext.specs.Form.{Question, Asked, marks, key_fields}
+use Rattle.booktext.proofs.Cut.{line_newline, line_fields}
 use Rattle.booktext.proofs.reads.key_line.Goals as goal
 
 -- what is asked of line n for the key at place i
@@ -25,10 +25,3 @@ returns-in_ok-read-in-75 c =
     let line = c.in_ok-read-in-75.field-0 in
     subst (λ k. Asked (asked c.args.text.now i k) c.key_fields.result) same
     (line_fields c.args.text.now _ n c.columns_of.ensures 75 (λ k m. key_fields k m i) c.key_fields.result line.number line.middle.now is c.in_ok-read-in-75.ensures.asked c.in_ok-read-in-75.ensures.is c.key_fields.ensures)
-
-pub returns-in_default : goal.returns-in_default
-returns-in_default c =
-    let i = c.args.place in
-    let n = 1 + c.from.result + c.from-2.result in
-    let same : n ≡ 1 + c.args.rules + i = omega (arith, c.from.ensures, c.from-2.ensures) in
-    subst (λ k. FirstNo (asked c.args.text.now i k) c.line_mark.result) same (line_letter c.args.text.now _ n c.columns_of.ensures 75 (λ k m. key_fields k m i) c.line_mark.result (λ e. search rules) c.line_mark.ensures)
