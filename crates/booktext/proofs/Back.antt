@@ -16,7 +16,7 @@ use Rattle.booktext.proofs.Laid.{rule_to, spread_to}
 use Rattle.booktext.proofs.Meant.{left_answers, size_answers, symbol_inside, kind_answers, spelling_lined, text_rules, text_keys}
 use Rattle.booktext.proofs.Order.{steps}
 use Rattle.booktext.proofs.Shown.{value_shown}
-use Rattle.booktext.proofs.Spelled.{spelled_short}
+use Rattle.booktext.proofs.Spelled.{spelled_front, spelled_short}
 
 -- a field in form is written back from its number, or as blanks
 number_back : (n j : ℕ) (f : List ℕ) → Holds (asks_number n j f) → boxed (value f) ≡ f
@@ -29,10 +29,6 @@ blank_back : (f : List ℕ) → length f ≡ 4 → Blank f → blank ≡ f
 blank_back f e h = sym (h ∙ ap (λ n. replicate n 32) e)
 
 -- a spelling in form is written back
-spelled_front : (s : List ℕ) → take (length (spelled s)) s ≡ spelled s
-spelled_front [] = refl
-spelled_front (b ∷ s) = cond_both _ [] (b ∷ spelled s) (λ z. take (length z) (b ∷ s) ≡ z) (λ _. refl) (λ _. ap (λ z. b ∷ z) (spelled_front s))
-
 spread_back : (s : List ℕ) (n : ℕ) → length s ≡ 24 → Blank (drop n s) → spread_to n s ≡ s
 spread_back s n e h =
     let rest : 24 - n ≡ length (drop n s) = omega (arith, length-drop n s) in

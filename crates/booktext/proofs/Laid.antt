@@ -1,17 +1,17 @@
 -- Fields laid into lines, and lines laid into a space.
-use Rattle.std.proofs.Common.{◌≡◌, ℕ, zero, suc, ◌+◌, ◌-◌, ◌*◌, ◌^◌, ◌<◌, ◌≤◌, min, Bool, cond, ltb, List, [], ◌∷◌, ◌++◌, map, length, get_or, take, drop, set, replicate, Decides, sym, refl, ap, ◌∙◌, arith}
+use Rattle.std.proofs.Common.{◌≡◌, ℕ, zero, suc, ◌+◌, ◌-◌, ◌*◌, ◌^◌, ◌<◌, ◌≤◌, min, cond, ltb, List, [], ◌∷◌, ◌++◌, map, length, get_or, take, drop, set, replicate, Decides, Ok, Err, OnOk, OnErr, Result, is_ok, sym, refl, ap, ◌∙◌, ⊎_elim, arith}
 use borrow.Rule.Slice.PartMut.{put_mid}
 use Rattle.std.specs.List.{range_with_len, flat_map}
 use Rattle.std.proofs.lemmas.List.FromFn.{fill_by_all, length-map-range_with_len}
 use Rattle.std.proofs.lemmas.List.Edits.{paste_all}
 use Rattle.std.proofs.lemmas.List.{append-nil, append_assoc, length-append, length-take, drop_at, drop-drop, set_at, take_more}
 use Rattle.std.proofs.lemmas.Slice.{put_mid-paste}
-use Rattle.std.proofs.lemmas.Bool.{cond_both}
-use Rattle.std.proofs.lemmas.Bool.Decides.{nat_tests, same_from_decides, Decides-like, Decides-ltb}
-use Rattle.language.specs.Book.{Grammar, Meaning, left, size, symbol}
+use Rattle.std.proofs.lemmas.Bool.{false≢true, cases_lt, cond-true, cond-false, cond_both, lt-ltb, le-ltb}
+use Rattle.std.proofs.lemmas.Bool.Decides.{nat_tests}
+use Rattle.language.specs.Book.{Grammar, KeyForm, Meaning, left, size, symbol, kind, spelling}
 use Rattle.language.proofs.Told.{place_inside}
 use Rattle.booktext.specs.Columns.{shown}
-use Rattle.booktext.specs.Written.{put, blank, boxed, line_of, head_line, symbol_field, rule_line, spread}
+use Rattle.booktext.specs.Written.{put, blank, boxed, line_of, head_line, symbol_field, rule_line, key_line, spread}
 use Rattle.booktext.proofs.Spelled.{take_min}
 
 -- what a copy into a part leaves
@@ -44,10 +44,10 @@ pub boxed_length : (v : ℕ) → length (boxed v) ≡ 4
 unfolding boxed
 boxed_length v = cond_both (ltb v 10000) (shown 4 v) blank (λ f. length f ≡ 4) (λ _. refl) (λ _. refl)
 
-pub boxed_set : (v : ℕ) (r : Bool) (f : List ℕ) → Decides r ((1 ≤ 4) × (v < 10 ^ 4)) → f ≡ cond r (shown 4 v) blank → f ≡ boxed v
+pub boxed_set : {X E : Type 0} (v : ℕ) (r : Result X E) (f : List ℕ) → Decides (is_ok r) ((1 ≤ 4) × (v < 10 ^ 4)) → OnOk r (f ≡ shown 4 v) → OnErr r (f ≡ blank) → f ≡ boxed v
 unfolding boxed
-boxed_set v r f h e =
-    e ∙ ap (λ b. cond b (shown 4 v) blank) (same_from_decides r (ltb v 10000) (Decides-like r (λ p. p.1) (λ l. (omega arith, l)) h) (Decides-ltb v 10000))
+boxed_set v (Ok x) f h set kept = set ∙ sym (cond-true (ltb v 10000) (shown 4 v) blank (lt-ltb v 10000 (h.0 refl).1))
+boxed_set v (Err e) f h set kept = kept ∙ sym (cond-false (ltb v 10000) (shown 4 v) blank (le-ltb v 10000 (⊎_elim (λ l. absurd (false≢true (h.1 (omega arith, l)))) (λ l. l) (cases_lt v 10000))))
 
 -- all fields have four columns
 abbrev pub Fours : List (List ℕ) → Type 0
@@ -112,21 +112,21 @@ key_shape : (a b t u : List ℕ) → line_of 75 (a ∷ b ∷ (t ++ u) ∷ []) �
 key_shape a b t u = simp (append_assoc, append-nil)
 
 -- one byte more
-pub spread_more : (a b s line : List ℕ) (n byte : ℕ) → length a ≡ 4 → length b ≡ 4 → n < length s → n < 24 → byte ≡ get_or s n 0 → line ≡ line_of 75 (a ∷ b ∷ spread_to n s ∷ []) → set line (9 + n) byte ≡ line_of 75 (a ∷ b ∷ spread_to (n + 1) s ∷ [])
-spread_more a b s line n byte ea eb l m is e =
+pub spread_more : (a b s line : List ℕ) (n k byte : ℕ) → length a ≡ 4 → length b ≡ 4 → n < length s → n < 24 → k ≡ n → byte ≡ get_or s n 0 → line ≡ line_of 75 (a ∷ b ∷ spread_to n s ∷ []) → set line (9 + k) byte ≡ line_of 75 (a ∷ b ∷ spread_to (n + 1) s ∷ [])
+spread_more a b s line n k byte ea eb l m same is e =
     let rest : List ℕ = replicate (24 - (n + 1)) 32 in
     let count : 24 - n ≡ suc (24 - (n + 1)) = omega arith in
-    let blanks : replicate (24 - n) 32 ≡ 32 ∷ rest = ap (λ k. replicate k 32) count in
-    let front : length (75 ∷ (a ++ (b ++ take n s))) ≡ 9 + n = omega (arith, length-append a (b ++ take n s), length-append b (take n s), length-take n s) in
+    let blanks : replicate (24 - n) 32 ≡ 32 ∷ rest = ap (λ m. replicate m 32) count in
+    let front : length (75 ∷ (a ++ (b ++ take n s))) ≡ 9 + k = omega (arith, length-append a (b ++ take n s), length-append b (take n s), length-take n s) in
     let more : take n s ++ (byte ∷ []) ≡ take (n + 1) s = ap (λ x. take n s ++ (x ∷ [])) is ∙ sym (take_more s n 0 l) in
-    ap (λ z. set z (9 + n) byte) (e ∙ (key_shape a b (take n s) (replicate (24 - n) 32) ∙ ap (λ u. (75 ∷ (a ++ (b ++ take n s))) ++ (u ++ (10 ∷ []))) blanks))
-    ∙ (set_at (75 ∷ (a ++ (b ++ take n s))) 32 (rest ++ (10 ∷ [])) byte (9 + n) front
+    ap (λ z. set z (9 + k) byte) (e ∙ (key_shape a b (take n s) (replicate (24 - n) 32) ∙ ap (λ u. (75 ∷ (a ++ (b ++ take n s))) ++ (u ++ (10 ∷ []))) blanks))
+    ∙ (set_at (75 ∷ (a ++ (b ++ take n s))) 32 (rest ++ (10 ∷ [])) byte (9 + k) front
     ∙ (reshape a b (take n s) (rest ++ (10 ∷ [])) byte
     ∙ (ap (λ t. (75 ∷ (a ++ (b ++ t))) ++ (rest ++ (10 ∷ []))) more ∙ sym (key_shape a b (take (n + 1) s) rest)))) where
       reshape : (a b t u : List ℕ) (x : ℕ) → (75 ∷ (a ++ (b ++ t))) ++ (x ∷ u) ≡ (75 ∷ (a ++ (b ++ (t ++ (x ∷ []))))) ++ u
       reshape a b t u x = simp append_assoc
 
-pub spread_all : (s : List ℕ) (n : ℕ) → n ≡ min (length s) 24 → spread_to n s ≡ spread s
+spread_all : (s : List ℕ) (n : ℕ) → n ≡ min (length s) 24 → spread_to n s ≡ spread s
 spread_all s n e =
     let blanks : 24 - n ≡ 24 - length s = omega arith in
     ap (λ t. t ++ replicate (24 - n) 32) (take_min s 24 n (omega arith)) ∙ ap (λ k. take 24 s ++ replicate k 32) blanks
@@ -165,3 +165,7 @@ rule_more g r n v was is l e same at =
 
 pub rule_all : (g : Grammar) (r n : ℕ) (line : List ℕ) → n ≡ min (size g r) 6 → line ≡ line_of 82 (rule_to g r n) → line ≡ rule_line g r
 rule_all g r n line e is = is ∙ ap (λ fs. line_of 82 (boxed (left g r) ∷ boxed (size g r) ∷ fs)) (symbols_all g r (size g r) n e)
+
+-- all of a spelling told, in the line of key c
+pub key_all : (fs : List KeyForm) (c n : ℕ) (line : List ℕ) → n ≡ min (length (spelling fs c)) 24 → line ≡ line_of 75 (boxed c ∷ boxed (kind fs c) ∷ spread_to n (spelling fs c) ∷ []) → line ≡ key_line fs c
+key_all fs c n line e is = is ∙ ap (λ s. line_of 75 (boxed c ∷ boxed (kind fs c) ∷ s ∷ [])) (spread_all (spelling fs c) n e)

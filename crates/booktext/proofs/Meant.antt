@@ -4,14 +4,9 @@ use Rattle.std.proofs.lemmas.Bool.{cases_lt, cond-true, cond-false, lt-ltb, le-l
 use Rattle.std.proofs.lemmas.List.FromFn.{length-map-range_with_len}
 use Rattle.language.specs.Book.{norule, noform, rule, left, size, symbol, form, kind, spelling}
 use Rattle.language.proofs.Told.{rule_inside, rule_outside, form_inside, form_outside, place_inside, place_outside}
-use Rattle.booktext.specs.Columns.{value}
-use Rattle.booktext.specs.Text.{Lined, field_of, number_at, number_on, rule_at, form_at, spelled, middle_of, spelling_field, text_meaning}
+use Rattle.booktext.specs.Text.{Lined, number_at, number_on, rule_at, form_at, spelled, middle_of, spelling_field, text_meaning}
 
 module _ (t : List ℕ) where
-  -- the number in the field that was found
-  pub number_found : (f : List ℕ) (line : Option ℕ) (n j v : ℕ) → v ≡ value f → f ≡ field_of (middle_of t n) j → line ≡ Some n → v ≡ number_on t line j
-  number_found f line n j v e at is = e ∙ (ap value at ∙ ap (λ o. number_on t o j) (sym is))
-
   -- the rule and the key form in the line that was found
   pub rule_lined : (r n : ℕ) → Lined r 1 (number_at t 0 3) 1 (Some n) → rule (text_meaning t).grammar.rules r ≡ rule_at t n
   unfolding text_meaning

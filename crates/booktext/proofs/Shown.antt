@@ -1,23 +1,8 @@
 -- Four columns and the number that they show.
-use Rattle.std.proofs.Common.{◌≡◌, ℕ, suc, ◌+◌, ◌-◌, ◌*◌, ◌/◌, ◌%◌, ◌<◌, ◌≤◌, true, eqb, List, [], ◌∷◌, ◌++◌, length, get_or, take, drop, set, replicate, Some, None, Option, unwrap_or, sym, refl, ap, ◌∙◌, subst, ⊎_elim, add-one, arith, MatchOption}
-use Rattle.std.proofs.lemmas.List.{append_assoc, drop-set, drop_all, length-set, take_more, take_all, replicate_more, get_or-replicate}
+use Rattle.std.proofs.Common.{◌≡◌, ℕ, ◌+◌, ◌-◌, ◌*◌, ◌/◌, ◌%◌, ◌<◌, true, eqb, List, [], ◌∷◌, Some, None, Option, unwrap_or, sym, refl, ap, ◌∙◌, ⊎_elim, arith, MatchOption}
 use Rattle.std.proofs.lemmas.Bool.{false≢true, eqb-true, eq-eqb, and_parts, and_from, cond-true, cond-false, cases_Bool}
 use Rattle.std.proofs.lemmas.Bool.Decides.{nat_tests}
-use Rattle.booktext.specs.Columns.{mark, lead, shown, same, weighed, value}
-
--- what is said of an Option, made weaker
-pub by_weaker : {X : Type 0} (o : Option X) {P Q : Type 0} {F G : X → Type 0} → (P → Q) → ((x : X) → F x → G x) → MatchOption o P F → MatchOption o Q G
-by_weaker None f g h = f h
-by_weaker (Some x) f g h = g x h
-
--- the columns one by one, each with the number up to it, show the last of these numbers
-pub shown_by : (f : List ℕ) (t h n v : ℕ) → length f ≡ 4 → t / 10 ≡ 0 → mark t ≡ get_or f 0 0 → h / 10 ≡ t → mark h ≡ get_or f 1 0 → n / 10 ≡ h → mark n ≡ get_or f 2 0 → v / 10 ≡ n → 48 + v % 10 ≡ get_or f 3 0 → (v < 10000) × (shown 4 v ≡ f)
-shown_by (a ∷ b ∷ c ∷ d ∷ []) t h n v e p1 q1 p2 q2 p3 q3 p4 q4 = (omega arith, cc)
-shown_by [] t h n v e p1 q1 p2 q2 p3 q3 p4 q4 = absurd (omega arith)
-shown_by (a ∷ []) t h n v e p1 q1 p2 q2 p3 q3 p4 q4 = absurd (omega arith)
-shown_by (a ∷ b ∷ []) t h n v e p1 q1 p2 q2 p3 q3 p4 q4 = absurd (omega arith)
-shown_by (a ∷ b ∷ c ∷ []) t h n v e p1 q1 p2 q2 p3 q3 p4 q4 = absurd (omega arith)
-shown_by (a ∷ b ∷ c ∷ d ∷ x ∷ xs) t h n v e p1 q1 p2 q2 p3 q3 p4 q4 = absurd (omega arith)
+use Rattle.booktext.specs.Columns.{mark, shown, same, weighed, value}
 
 -- a column weighs the last figure of the number up to it
 pub mark_weighs : (m : ℕ) → mark m - 48 ≡ m % 10
@@ -61,38 +46,6 @@ value_none f none = ⊎_elim
     absurd (none (weighed 0 f) (omega arith) (sym s)))
     (λ e. cond-false _ _ 0 e)
     (cases_Bool (same f (shown 4 (weighed 0 f))))
-
--- the last column of those to set, alone
-pub lead_last : (xs : List ℕ) (j v : ℕ) → suc j ≡ length xs → lead j (v / 10) ++ drop j (set xs j (48 + v % 10)) ≡ shown (length (set xs j (48 + v % 10))) v
-lead_last xs j v e =
-    subst (λ n. lead j (v / 10) ++ drop j (set xs j (48 + v % 10)) ≡ shown n v) (e ∙ sym (length-set xs j (48 + v % 10)))
-    (ap (λ t. lead j (v / 10) ++ t) (drop-set xs j (48 + v % 10) (omega arith) ∙ ap (λ t. (48 + v % 10) ∷ t) (drop_all (j + 1) xs (omega arith))))
-
--- one more column to the left of those that are set
-pub lead_more : (xs : List ℕ) (i j m b v : ℕ) → suc j ≡ i → j < length xs → b ≡ mark m → lead i m ++ drop i xs ≡ shown (length xs) v → lead j (m / 10) ++ drop j (set xs j b) ≡ shown (length (set xs j b)) v
-lead_more xs i j m b v e h is was =
-    ap (λ t. lead j (m / 10) ++ t) (drop-set xs j b h ∙ (ap (λ x. x ∷ drop (j + 1) xs) is ∙ ap (λ n. mark m ∷ drop n xs) (add-one j)))
-    ∙ (sym (append_assoc (lead j (m / 10)) (mark m ∷ []) (drop (suc j) xs))
-    ∙ (ap (λ n. lead n m ++ drop n xs) e
-    ∙ (was ∙ ap (λ n. shown n v) (sym (length-set xs j b)))))
-
--- one more blank column
-pub blank_more : (xs : List ℕ) (i : ℕ) → i < length xs → take i xs ≡ replicate i 32 → get_or xs i 0 ≡ 32 → take (i + 1) xs ≡ replicate (i + 1) 32
-blank_more xs i h was is =
-    let more = take_more xs i 0 h in
-    let fill = replicate_more {X = ℕ} i 32 in
-    cc
-
--- all columns blank
-pub blank_all : (xs : List ℕ) (i : ℕ) → length xs ≤ i → i ≤ length xs → take i xs ≡ replicate i 32 → xs ≡ replicate (length xs) 32
-blank_all xs i h l was =
-    let all = take_all i xs h in
-    let n : i ≡ length xs = omega arith in
-    cc
-
--- a column of blank columns
-pub blank_at : (xs : List ℕ) (i n : ℕ) → i < n → xs ≡ replicate n 32 → get_or xs i 0 ≡ 32
-blank_at xs i n h e = ap (λ l. get_or l i 0) e ∙ get_or-replicate n i 32 0 h
 
 -- what the columns are read as is their value
 pub value_read : (f : List ℕ) (o : Option ℕ) → MatchOption o ((v : ℕ) → v < 10000 → shown 4 v ≡ f → ⊥) (λ v. (v < 10000) × (shown 4 v ≡ f)) → unwrap_or o 0 ≡ value f

@@ -1,9 +1,7 @@
 -- Columns of a text, and the bytes before the first space.
-use Rattle.std.proofs.Common.{◌≡◌, ℕ, suc, ◌+◌, ◌-◌, ◌<◌, ◌≤◌, min, Bool, true, false, not, eqb, List, [], ◌∷◌, ◌++◌, length, get_or, take, drop, Decides, sym, ap, ◌∙◌, subst, ⊎_elim, arith}
-use Rattle.std.proofs.lemmas.List.{append-nil, append_assoc, take_all, take_more, drop_all, at_drop_more, at_drop_all, length-drop, length-take}
-use Rattle.std.proofs.lemmas.Bool.{false≢true, both_ways, not_from_true, cases_lt, cond-true, cond-false, cond_both, eq-eqb, ne_eqb}
-use Rattle.booktext.specs.Columns.{Blank}
-use Rattle.booktext.specs.Form.{Spelling}
+use Rattle.std.proofs.Common.{◌≡◌, ℕ, suc, ◌≤◌, min, eqb, List, [], ◌∷◌, length, take, drop, sym, refl, ap, ◌∙◌, ⊎_elim, arith}
+use Rattle.std.proofs.lemmas.List.{take_all, length-take}
+use Rattle.std.proofs.lemmas.Bool.{cases_lt, cond_both}
 use Rattle.booktext.specs.Text.{spelled, spelling_field}
 
 pub take_min : (ys : List ℕ) (n k : ℕ) → k ≡ min n (length ys) → take k ys ≡ take n ys
@@ -12,30 +10,10 @@ take_min ys n k e = ⊎_elim
     (λ h. take_all k ys (omega arith) ∙ sym (take_all n ys (omega arith)))
     (cases_lt n (length ys))
 
--- as many of the columns from a place on as the text has
-pub columns_are : (xs : List ℕ) (from count first past : ℕ) → first ≡ min from (length xs) → past ≡ first + min count (length xs - first) → take (past - first) (drop first xs) ≡ take count (drop from xs)
-columns_are xs from count first past e p = ⊎_elim
-    (λ h. let same : first ≡ from = omega arith in
-    take_min (drop first xs) count (past - first) (omega (arith, length-drop first xs)) ∙ ap (λ n. take count (drop n xs)) same)
-    (λ h. ap (take (past - first)) (drop_all first xs (omega arith)) ∙ (take_all (past - first) [] (omega arith) ∙ sym (ap (take count) (drop_all from xs (omega arith)) ∙ take_all count [] (omega arith))))
-    (cases_lt from (length xs))
-
-module _ (xs : List ℕ) (i : ℕ) (was : take i xs ++ spelled (drop i xs) ≡ spelled xs) where
-  -- the spelling ends before a space
-  pub spelled_stop : i < length xs → get_or xs i 0 ≡ 32 → take i xs ≡ spelled xs
-  spelled_stop h e =
-      sym (append-nil (take i xs)) ∙ (ap (λ t. take i xs ++ t) (sym (at_drop_more spelled xs i 0 h ∙ cond-true _ _ _ (eq-eqb _ 32 e))) ∙ was)
-
-  -- the spelling goes on past another byte
-  pub spelled_more : i < length xs → (get_or xs i 0 ≡ 32 → ⊥) → take (i + 1) xs ++ spelled (drop (i + 1) xs) ≡ spelled xs
-  spelled_more h e =
-      ap (λ t. t ++ spelled (drop (i + 1) xs)) (take_more xs i 0 h)
-      ∙ (append_assoc (take i xs) (get_or xs i 0 ∷ []) (spelled (drop (i + 1) xs))
-      ∙ (ap (λ t. take i xs ++ t) (sym (at_drop_more spelled xs i 0 h ∙ cond-false _ _ _ (ne_eqb _ 32 e))) ∙ was))
-
-  -- no space at all
-  pub spelled_all : length xs ≤ i → xs ≡ spelled xs
-  spelled_all h = sym (take_all i xs h) ∙ (sym (append-nil (take i xs)) ∙ (ap (λ t. take i xs ++ t) (sym (at_drop_all spelled xs i h)) ∙ was))
+-- the spelling is the front of its columns
+pub spelled_front : (xs : List ℕ) → take (length (spelled xs)) xs ≡ spelled xs
+spelled_front [] = refl
+spelled_front (b ∷ xs) = cond_both _ [] (b ∷ spelled xs) (λ z. take (length z) (b ∷ xs) ≡ z) (λ _. refl) (λ _. ap (λ z. b ∷ z) (spelled_front xs))
 
 pub spelled_short : (xs : List ℕ) → length (spelled xs) ≤ length xs
 spelled_short [] = omega arith
@@ -44,18 +22,3 @@ spelled_short (b ∷ xs) = cond_both (eqb b 32) [] (b ∷ spelled xs) (λ s. len
 -- a spelling in its columns is no longer than these
 pub spelling_short : (m : List ℕ) → length (spelled (spelling_field m)) ≤ 24
 spelling_short m = omega (arith, spelled_short (spelling_field m), length-take 24 (drop 8 m))
-
--- a spelling without a newline: whether the rest is blank decides
-pub spelling_decided : (xs s rest : List ℕ) (b : Bool) → s ≡ spelled xs → rest ≡ drop (length s) xs → ((k : ℕ) → k < length s → get_or s k 0 ≡ 10 → false ≡ true) → Decides b (Blank rest) → Decides b (Spelling xs)
-spelling_decided xs s rest b e at none h = (
-  (λ t. record {
-    bytes = λ k l n. false≢true (none k (subst (λ z. k < length z) (sym e) l) (ap (λ z. get_or z k 0) e ∙ n));
-    rest = subst Blank (at ∙ ap (λ z. drop (length z) xs) e) (h.0 t);
-  }),
-  (λ f. h.1 (subst Blank (sym (at ∙ ap (λ z. drop (length z) xs) e)) f.rest)),
-)
-
--- a newline in the spelling decides
-pub newline_spelled : (xs s : List ℕ) (b : Bool) (k : ℕ) → s ≡ spelled xs → k < length s → get_or s k 0 ≡ 10 → b ≡ true → Decides (not b) (Spelling xs)
-newline_spelled xs s b k e l n t =
-    ((λ f. absurd (both_ways (not b) (not_from_true b t) f)), (λ f. absurd (f.bytes k (subst (λ z. k < length z) e l) (ap (λ z. get_or z k 0) (sym e) ∙ n))))

@@ -1,5 +1,5 @@
 -- The text of a book, line by line.
-use Rattle.std.specs.Prelude.{◌≡◌, ℕ, ◌+◌, ◌-◌, ◌*◌, ◌≤◌, cond, List, [], ◌∷◌, ◌++◌, map, length, take, drop, replicate, nat_lt}
+use Rattle.std.specs.Prelude.{◌≡◌, ℕ, ◌+◌, ◌-◌, ◌*◌, ◌^◌, ◌<◌, ◌≤◌, cond, List, [], ◌∷◌, ◌++◌, map, length, take, drop, replicate, nat_lt}
 use Rattle.std.specs.List.{range_with_len, flat_map}
 use Rattle.language.specs.Book.{Grammar, KeyForm, Meaning, left, size, symbol, kind, spelling}
 use Rattle.booktext.specs.Columns.{shown}
@@ -42,6 +42,11 @@ spread s = take 24 s ++ replicate (24 - length s) 32
 -- the line of key c
 abbrev pub key_line : List KeyForm → ℕ → List ℕ
 key_line fs c = line_of 75 (boxed c ∷ boxed (kind fs c) ∷ spread (spelling fs c) ∷ [])
+
+-- what is made of each number n is f n, a line of 34 bytes
+pub record Makes (made : ℕ → List ℕ → Type 0) (f : ℕ → List ℕ) : Type 0 where
+  pub line : (n : ℕ) (l : List ℕ) → n < 2 ^ 16 → made n l → l ≡ f n
+  pub wide : (n : ℕ) → length (f n) ≡ 34
 
 -- how many lines a book has
 abbrev pub lines_in : Meaning → ℕ

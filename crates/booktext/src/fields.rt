@@ -1,6 +1,10 @@
 // Numbers in columns: right-justified, with blanks before the first figure and no leading zero.
-ghost use Rattle.std.specs.Prelude.{◌≡◌, ℕ, ◌+◌, ◌*◌, ◌/◌, ◌%◌, ◌^◌, ◌<◌, ◌≤◌, length, if◌then◌else◌, Decides, MatchOption, ◌≢◌};
+ghost use Rattle.std.specs.Prelude.{◌≡◌, ℕ, ◌+◌, ◌*◌, ◌/◌, ◌%◌, ◌^◌, ◌<◌, ◌≤◌, ◌↔◌, length, IsTrue, IsOk, OnOk, OnErr, MatchOption, ◌≢◌};
 ghost use Rattle.booktext.specs.Columns.{Blank, mark as mark_of, shown};
+
+// A number has more figures than there are columns.
+#[derive(Clone, Copy, Debug, PartialEq, Eq)]
+pub struct TooWide;
 
 // The number up to a column that must hold a figure, after the number up to the column before it.
 fn figure(before: u16, byte: u8) -> Option<u16>
@@ -8,7 +12,7 @@ fn figure(before: u16, byte: u8) -> Option<u16>
     ensures { MatchOption result ((m : ℕ) → 48 + m % 10 ≢ byte) (λ m. (m / 10 ≡ before) × (48 + m % 10 ≡ byte)) }
 {
     match byte {
-        b'0'..=b'9' => Some(before * 10 + (byte - b'0') as u16),
+        b'0'..=b'9' => Some(before * 10 + u16::from(byte - b'0')),
         _ => None,
     }
 }
@@ -19,10 +23,9 @@ fn column(before: u16, byte: u8) -> Option<u16>
     ensures { MatchOption result ((m : ℕ) → m / 10 ≡ before → mark_of m ≢ byte) (λ m. (m / 10 ≡ before) × (mark_of m ≡ byte)) }
 {
     if byte == b' ' {
-        return if before == 0 { Some(0) } else { None };
+        return (before == 0).then_some(0);
     }
-    let number = figure(before, byte)?;
-    if number == 0 { None } else { Some(number) }
+    figure(before, byte).filter(|number| *number != 0)
 }
 
 // The number that four columns show.
@@ -40,28 +43,16 @@ pub fn number(field: &[u8]) -> Option<u16>
 
 // Whether the columns are all blank.
 pub(super) fn is_blank(columns: &[u8]) -> bool
-    ensures { Decides result (Blank columns.now) }
+    ensures { IsTrue result ↔ Blank columns.now }
 {
-    for byte in columns {
-        if *byte != b' ' {
-            return false;
-        }
-    }
-    true
+    columns.iter().all(|byte| *byte == b' ')
 }
 
-// Whether so many columns hold all the figures of a number.
+// Whether so many columns hold all the figures of a number, one more than its logarithm.
 fn fits(number: u16, columns: usize) -> bool
-    ensures { Decides result ((1 ≤ columns) × (number < 10 ^ columns)) }
+    ensures { IsTrue result ↔ ((1 ≤ columns) × (number < 10 ^ columns)) }
 {
-    match columns {
-        0 => false,
-        1 => number < 10,
-        2 => number < 100,
-        3 => number < 1000,
-        4 => number < 10000,
-        _ => true,
-    }
+    (number.max(1).ilog10() as usize) < columns
 }
 
 // The column up to which the number is this: blank before the first figure.
@@ -76,19 +67,21 @@ fn mark(up_to: u16) -> u8
 }
 
 // Sets a number right-justified into the columns; one with more figures than columns is refused, and the columns stay.
-pub fn set_right(columns: &mut [u8], number: u16) -> bool
-    ensures fitting { Decides result ((1 ≤ length columns.old) × (number < 10 ^ length columns.old)) }
-    ensures after { columns.new ≡ (if result then shown (length columns.old) number else columns.old) }
+pub fn set_right(columns: &mut [u8], number: u16) -> Result<(), TooWide>
+    ensures fitting { IsOk result ↔ ((1 ≤ length columns.old) × (number < 10 ^ length columns.old)) }
+    ensures set { OnOk result (columns.new ≡ shown (length columns.old) number) }
+    ensures kept { OnErr result (columns.new ≡ columns.old) }
 {
     if !fits(number, columns.len()) {
-        return false;
+        return Err(TooWide);
     }
     let last = columns.len() - 1;
     columns[last] = b'0' + (number % 10) as u8;
     let mut rest = number / 10;
+    // By index: after `iter_mut` a proof does not know what the columns hold.
     for i in (0..last).rev() {
         columns[i] = mark(rest);
         rest /= 10;
     }
-    true
+    Ok(())
 }

@@ -7,6 +7,6 @@ mod reads;
 mod texts;
 mod writes;
 
-pub use fields::{number, set_right};
+pub use fields::{TooWide, number, set_right};
 pub use texts::TextBook;
 pub use writes::{write, written_len};

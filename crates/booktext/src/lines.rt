@@ -3,15 +3,21 @@ ghost use Rattle.std.specs.Prelude.{◌≡◌, ◌+◌, ◌*◌, take, drop};
 ghost use Rattle.booktext.specs.Text.{middle_of, field_of, spelling_field, spelled as spelled_in};
 
 // The columns from a place on: so many, or as many as the text has.
-pub(super) fn columns(text: &[u8], from: usize, count: usize) -> &[u8]
+fn columns(text: &[u8], from: usize, count: usize) -> &[u8]
     ensures { result.now ≡ take count (drop from text.now) }
 {
-    let first = from.min(text.len());
-    let past = first + count.min(text.len() - first);
-    &text[first..past]
+    let rest = text.get(from..).unwrap_or(&[]);
+    &rest[..count.min(rest.len())]
 }
 
-// The columns between the letter and the newline of a line; lines count from 0.
+// The columns of a line; lines count from 0.
+pub(super) fn columns_of(text: &[u8], line: u32) -> &[u8]
+    ensures { result.now ≡ take 34 (drop (34 * line) text.now) }
+{
+    columns(text, 34 * line as usize, 34)
+}
+
+// The columns between the letter and the newline of a line.
 pub(super) fn middle(text: &[u8], line: u32) -> &[u8]
     ensures { result.now ≡ middle_of text.now line }
 {
@@ -22,7 +28,7 @@ pub(super) fn middle(text: &[u8], line: u32) -> &[u8]
 pub(super) fn field(middle: &[u8], place: u16) -> &[u8]
     ensures { result.now ≡ field_of middle.now place }
 {
-    columns(middle, 4 * place as usize, 4)
+    columns(middle, 4 * usize::from(place), 4)
 }
 
 // The field of a spelling among those.
@@ -36,10 +42,6 @@ pub(super) fn spelling_field(middle: &[u8]) -> &[u8]
 pub(super) fn spelled(columns: &[u8]) -> &[u8]
     ensures { result.now ≡ spelled_in columns.now }
 {
-    for (i, byte) in columns.iter().enumerate() {
-        if *byte == b' ' {
-            return &columns[0..i];
-        }
-    }
-    columns
+    let space = columns.iter().position(|byte| *byte == b' ');
+    &columns[..space.unwrap_or(columns.len())]
 }

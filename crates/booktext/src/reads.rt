@@ -1,164 +1,180 @@
 // Reading: the questions that are asked of a text, in their order; the first that is answered no is the refusal.
-ghost use Rattle.std.specs.Prelude.{◌≡◌, ◌+◌, ◌-◌, ◌*◌, ◌≤◌, [], ◌∷◌, length, take, IfOk, IfErr, Decides, slice_index};
+ghost use Rattle.std.specs.Prelude.{◌≡◌, ◌+◌, ◌-◌, ◌*◌, ◌↔◌, ◌++◌, [], ◌∷◌, length, take, IsTrue, IfOk, IfErr, slice_index};
 ghost use Rattle.std.specs.List.{range_with_len, flat_map};
 ghost use Rattle.rulebook.specs.Fault.{layer_of};
 ghost use Rattle.booktext.specs.Columns.{value};
 ghost use Rattle.booktext.specs.Text.{field_of, number_at};
-ghost use Rattle.booktext.specs.Form.{Asked, Sized, Spelling, asks_length, asks_mark, asks_number, asks_lines, numbers, blanks, head_fields, rule_fields, key_fields, head_questions, rule_questions, key_questions, lines_of, questions};
+ghost use Rattle.booktext.specs.Form.{Asked, Sized, Spelling, asks_length, asks_mark, asks_number, asks_lines, numbers, blanks, rule_fields, key_fields, head_questions, rule_questions, key_questions, lines_of, questions};
 
 use super::fields::{is_blank, number};
-use super::lines::{columns, field, spelled, spelling_field};
+use super::lines::{columns_of, field, spelled, spelling_field};
 use super::texts::TextBook;
+use super::writes::written_len;
 use rulebook::{Book, Fault};
 
-// Whether the length is a multiple of 34 in bounds.
-fn whole(text: &[u8]) -> Result<(), Fault>
-    ensures { Asked (asks_length (length text.now) ∷ []) result }
-{
-    if text.len() % 34 == 0 && 34 <= text.len() && text.len() <= 5474 {
-        Ok(())
-    } else {
-        Err(Fault::TextLength)
-    }
+// A line between its letter and its newline, and its number, counted from 0.
+#[derive(Clone, Copy)]
+struct Line<'t> {
+    number: u32,
+    middle: &'t [u8],
 }
 
-// A field of a line that must be a number.
-fn number_field(middle: &[u8], line: u32, place: u16) -> Result<u16, Fault>
-    ensures asked { Asked (asks_number line place (field_of middle.now place) ∷ []) result }
-    ensures is { IfOk result (λ v. v ≡ value (field_of middle.now place)) }
+// The number of a line as refusals tell it, counted from 1.
+fn told_number(line: u32) -> usize
+    ensures { result ≡ line + 1 }
 {
-    number(field(middle, place)).ok_or(Fault::FieldForm {
-        line: line as usize + 1,
-        column: 2 + 4 * place as usize,
-    })
+    line as usize + 1
 }
 
-// The fields from one to before another must be numbers.
-fn number_fields(middle: &[u8], line: u32, from: u16, past: u16) -> Result<(), Fault>
-    ensures { Asked (numbers line middle.now from (past - from)) result }
+// The refusal of another byte in a column of a line; columns count from 1.
+fn line_mark(line: u32, column: usize) -> Fault
+    ensures { result ≡ Fault.LineMark (line + 1) column }
 {
-    for place in from..past {
-        number_field(middle, line, place)?;
+    Fault::LineMark {
+        line: told_number(line),
+        column,
     }
-    Ok(())
-}
-
-// The fields from one on must be blank.
-fn blank_fields(middle: &[u8], line: u32, from: u16) -> Result<(), Fault>
-    ensures { Asked (blanks line middle.now from (8 - from)) result }
-{
-    for place in from..8 {
-        if !is_blank(field(middle, place)) {
-            return Err(Fault::FieldForm {
-                line: line as usize + 1,
-                column: 2 + 4 * place as usize,
-            });
-        }
-    }
-    Ok(())
 }
 
 // Whether columns hold a spelling with only spaces after it.
 fn is_spelling(columns: &[u8]) -> bool
-    ensures { Decides result (Spelling columns.now) }
+    ensures { IsTrue result ↔ Spelling columns.now }
 {
     let spelling = spelled(columns);
     let (_, rest) = columns.split_at(spelling.len());
     !spelling.contains(&b'\n') && is_blank(rest)
 }
 
-// The fields of the first line.
-fn head_fields(middle: &[u8]) -> Result<(), Fault>
-    ensures { Asked (head_fields middle.now) result }
-{
-    number_fields(middle, 0, 0, 4)?;
-    blank_fields(middle, 0, 4)
-}
-
-// The fields of a rule.
-fn rule_fields(middle: &[u8], line: u32) -> Result<(), Fault>
-    ensures { Asked (rule_fields line middle.now) result }
-{
-    number_field(middle, line, 0)?;
-    let size = number_field(middle, line, 1)?;
-    let past = 2 + size.min(6);
-    number_fields(middle, line, 2, past)?;
-    blank_fields(middle, line, past)
-}
-
-// The fields of the key at a place, counted from 0.
-fn key_fields(middle: &[u8], line: u32, place: u16) -> Result<(), Fault>
-    ensures { Asked (key_fields line middle.now place) result }
-{
-    let key = number_field(middle, line, 0)?;
-    number_field(middle, line, 1)?;
-    if !is_spelling(spelling_field(middle)) {
-        return Err(Fault::FieldForm {
-            line: line as usize + 1,
-            column: 10,
-        });
+impl<'t> Line<'t> {
+    // The line of a number, by the columns after its letter, if its newline is there.
+    fn read(number: u32, rest: &'t [u8]) -> Result<Line<'t>, Fault>
+        ensures asked { Asked (asks_mark number 34 10 (slice_index rest.now 32) ∷ []) result }
+        ensures is { IfOk result (λ l. (l.number ≡ number) × (l.middle.now ≡ take 32 rest.now)) }
+    {
+        match rest.split_at_checked(32) {
+            Some((middle, [b'\n', ..])) => Ok(Line { number, middle }),
+            _ => Err(line_mark(number, 34)),
+        }
     }
-    if key as u32 == 33 + place as u32 {
+
+    // The refusal of a field.
+    fn field_form(&self, place: u16) -> Fault
+        ensures { result ≡ Fault.FieldForm (self.now.number + 1) (2 + 4 * place) }
+    {
+        Fault::FieldForm {
+            line: told_number(self.number),
+            column: 2 + 4 * usize::from(place),
+        }
+    }
+
+    // A field that must be a number.
+    fn number_at(&self, place: u16) -> Result<u16, Fault>
+        ensures asked { Asked (asks_number self.now.number place (field_of self.now.middle.now place) ∷ []) result }
+        ensures is { IfOk result (λ v. v ≡ value (field_of self.now.middle.now place)) }
+    {
+        number(field(self.middle, place)).ok_or(self.field_form(place))
+    }
+
+    // The fields from one to before another must be numbers.
+    fn numbers(&self, from: u16, past: u16) -> Result<(), Fault>
+        ensures { Asked (numbers self.now.number self.now.middle.now from (past - from)) result }
+    {
+        for place in from..past {
+            self.number_at(place)?;
+        }
+        Ok(())
+    }
+
+    // The fields from one on must be blank.
+    fn blanks(&self, from: u16) -> Result<(), Fault>
+        ensures { Asked (blanks self.now.number self.now.middle.now from (8 - from)) result }
+    {
+        for place in from..8 {
+            if !is_blank(field(self.middle, place)) {
+                return Err(self.field_form(place));
+            }
+        }
+        Ok(())
+    }
+
+    // The fields of the first line.
+    fn head_fields(&self) -> Result<(), Fault>
+        ensures { Asked (numbers self.now.number self.now.middle.now 0 4 ++ blanks self.now.number self.now.middle.now 4 4) result }
+    {
+        self.numbers(0, 4)?;
+        self.blanks(4)
+    }
+
+    // The fields of a rule.
+    fn rule_fields(&self) -> Result<(), Fault>
+        ensures { Asked (rule_fields self.now.number self.now.middle.now) result }
+    {
+        self.number_at(0)?;
+        let size = self.number_at(1)?;
+        let past = 2 + size.min(6);
+        self.numbers(2, past)?;
+        self.blanks(past)
+    }
+
+    // The fields of the key at a place, counted from 0.
+    fn key_fields(&self, place: u16) -> Result<(), Fault>
+        ensures { Asked (key_fields self.now.number self.now.middle.now place) result }
+    {
+        let key = self.number_at(0)?;
+        self.number_at(1)?;
+        if !is_spelling(spelling_field(self.middle)) {
+            // The spelling begins where a third number would.
+            return Err(self.field_form(2));
+        }
+        if u32::from(key) == 33 + u32::from(place) {
+            Ok(())
+        } else {
+            Err(Fault::KeyNumber {
+                line: told_number(self.number),
+            })
+        }
+    }
+}
+
+// Whether the length is a multiple of 34 in bounds.
+fn whole(text: &[u8]) -> Result<(), Fault>
+    ensures { Asked (asks_length (length text.now) ∷ []) result }
+{
+    if text.len() % 34 == 0 && (34..=5474).contains(&text.len()) {
         Ok(())
     } else {
-        Err(Fault::KeyNumber {
-            line: line as usize + 1,
-        })
-    }
-}
-
-// The columns of a line before its newline, after its letter.
-fn before_newline(rest: &[u8], line: u32) -> Result<&[u8], Fault>
-    requires { length rest.now ≡ 33 }
-    ensures asked { Asked (asks_mark line 34 10 (slice_index rest.now 32) ∷ []) result }
-    ensures is { IfOk result (λ m. m.now ≡ take 32 rest.now) }
-{
-    match rest {
-        [middle @ .., b'\n'] => Ok(middle),
-        _ => Err(Fault::LineMark {
-            line: line as usize + 1,
-            column: 34,
-        }),
+        Err(Fault::TextLength)
     }
 }
 
 // The first line.
 fn head_line(text: &[u8]) -> Result<(), Fault>
-    requires { 34 ≤ length text.now }
     ensures { Asked (head_questions text.now) result }
 {
-    match columns(text, 0, 34) {
-        [b'H', rest @ ..] => head_fields(before_newline(rest, 0)?),
-        _ => Err(Fault::LineMark { line: 1, column: 1 }),
+    match columns_of(text, 0) {
+        [b'H', rest @ ..] => Line::read(0, rest)?.head_fields(),
+        _ => Err(line_mark(0, 1)),
     }
 }
 
 // The line of a rule.
 fn rule_line(text: &[u8], line: u32) -> Result<(), Fault>
-    requires { 34 * line + 34 ≤ length text.now }
     ensures { Asked (rule_questions text.now line) result }
 {
-    match columns(text, 34 * line as usize, 34) {
-        [b'R', rest @ ..] => rule_fields(before_newline(rest, line)?, line),
-        _ => Err(Fault::LineMark {
-            line: line as usize + 1,
-            column: 1,
-        }),
+    match columns_of(text, line) {
+        [b'R', rest @ ..] => Line::read(line, rest)?.rule_fields(),
+        _ => Err(line_mark(line, 1)),
     }
 }
 
 // The line of the key at a place, counted from 0, after the lines of the rules.
 fn key_line(text: &[u8], rules: u16, place: u16) -> Result<(), Fault>
-    requires { 34 * (1 + rules + place) + 34 ≤ length text.now }
     ensures { Asked (key_questions text.now (1 + rules) place) result }
 {
-    let line = 1 + rules as u32 + place as u32;
-    match columns(text, 34 * line as usize, 34) {
-        [b'K', rest @ ..] => key_fields(before_newline(rest, line)?, line, place),
-        _ => Err(Fault::LineMark {
-            line: line as usize + 1,
-            column: 1,
-        }),
+    let line = 1 + u32::from(rules) + u32::from(place);
+    match columns_of(text, line) {
+        [b'K', rest @ ..] => Line::read(line, rest)?.key_fields(place),
+        _ => Err(line_mark(line, 1)),
     }
 }
 
@@ -166,7 +182,7 @@ fn key_line(text: &[u8], rules: u16, place: u16) -> Result<(), Fault>
 fn counted(book: &TextBook) -> Result<(), Fault>
     ensures { Asked (asks_lines (length book.now.text.now) (lines_of book.now.text.now) ∷ []) result }
 {
-    if book.text.len() == 34 * (1 + book.rules() as usize + book.keys() as usize) {
+    if book.text.len() == written_len(book) {
         Ok(())
     } else {
         Err(Fault::LineCount)
@@ -175,10 +191,9 @@ fn counted(book: &TextBook) -> Result<(), Fault>
 
 // The lines of the rules.
 fn rule_lines(book: &TextBook) -> Result<(), Fault>
-    requires { length book.now.text.now ≡ 34 * lines_of book.now.text.now }
     ensures { Asked (flat_map (rule_questions book.now.text.now) (range_with_len 1 (number_at book.now.text.now 0 3))) result }
 {
-    for line in 1..1 + book.rules() as u32 {
+    for line in 1..1 + u32::from(book.rules()) {
         rule_line(book.text, line)?;
     }
     Ok(())
@@ -186,7 +201,6 @@ fn rule_lines(book: &TextBook) -> Result<(), Fault>
 
 // The lines of the keys.
 fn key_lines(book: &TextBook) -> Result<(), Fault>
-    requires { length book.now.text.now ≡ 34 * lines_of book.now.text.now }
     ensures { Asked (flat_map (key_questions book.now.text.now (1 + number_at book.now.text.now 0 3)) (range_with_len 0 (number_at book.now.text.now 0 1))) result }
 {
     let rules = book.rules();

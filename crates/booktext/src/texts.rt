@@ -15,29 +15,37 @@ pub struct TextBook<'a> {
 
 impl TextBook<'_> {
     // The number in a field of a line, both counted from 0.
-    fn field(&self, line: Option<u32>, place: u16) -> u16
+    fn number_at(&self, line: u32, place: u16) -> u16
+        ensures { result ≡ number_at self.now.text.now line place }
+    {
+        number(field(middle(self.text, line), place)).unwrap_or(0)
+    }
+
+    // The number in a field of a line, if there is one.
+    fn number_on(&self, line: Option<u32>, place: u16) -> u16
         ensures { result ≡ number_on self.now.text.now line place }
     {
-        let Some(line) = line else {
-            return 0;
-        };
-        number(field(middle(self.text, line), place)).unwrap_or(0)
+        // Not `map_or`: of what a closure over `self` returns, a proof learns nothing.
+        match line {
+            Some(line) => self.number_at(line, place),
+            None => 0,
+        }
     }
 
     // The line of a rule.
     fn rule_line(&self, rule: u16) -> Option<u32>
         ensures { Lined rule 1 (number_at self.now.text.now 0 3) 1 result }
     {
-        let place = place_of(rule, 1, self.field(Some(0), 3))?;
-        Some(1 + place as u32)
+        let place = place_of(rule, 1, self.rules())?;
+        Some(1 + u32::from(place))
     }
 
     // The line of a key.
     fn key_line(&self, key: u16) -> Option<u32>
         ensures { Lined key 33 (number_at self.now.text.now 0 1) (1 + number_at self.now.text.now 0 3) result }
     {
-        let place = place_of(key, 33, self.field(Some(0), 1))?;
-        Some(1 + self.field(Some(0), 3) as u32 + place as u32)
+        let place = place_of(key, 33, self.keys())?;
+        Some(1 + u32::from(self.rules()) + u32::from(place))
     }
 
     // The spelling of a key.
@@ -56,40 +64,40 @@ impl Book for TextBook<'_> {
     ghost meaning = { λ s. text_meaning s.text.now };
 
     fn parts(&self) -> u16 {
-        self.field(Some(0), 0)
+        self.number_at(0, 0)
     }
 
     fn keys(&self) -> u16 {
-        self.field(Some(0), 1)
+        self.number_at(0, 1)
     }
 
     fn start(&self) -> u16 {
-        self.field(Some(0), 2)
+        self.number_at(0, 2)
     }
 
     fn rules(&self) -> u16 {
-        self.field(Some(0), 3)
+        self.number_at(0, 3)
     }
 
     fn left(&self, rule: u16) -> u16 {
-        self.field(self.rule_line(rule), 0)
+        self.number_on(self.rule_line(rule), 0)
     }
 
     fn size(&self, rule: u16) -> u16 {
-        self.field(self.rule_line(rule), 1)
+        self.number_on(self.rule_line(rule), 1)
     }
 
     fn symbol(&self, rule: u16, at: u16) -> u16 {
         let line = self.rule_line(rule);
-        if at < self.field(line, 1).min(6) {
-            self.field(line, 2 + at)
+        if at < self.number_on(line, 1).min(6) {
+            self.number_on(line, 2 + at)
         } else {
             0
         }
     }
 
     fn kind(&self, key: u16) -> u16 {
-        self.field(self.key_line(key), 1)
+        self.number_on(self.key_line(key), 1)
     }
 
     fn spelling_len(&self, key: u16) -> u16 {

@@ -1,18 +1,21 @@
 // Writing: each line of a book is made by itself and then set in its place.
-ghost use Rattle.std.specs.Prelude.{◌≡◌, ◌+◌, ◌*◌, ◌<◌, ◌≤◌, [], ◌∷◌, length, MatchResult};
+ghost use Rattle.std.specs.Prelude.{◌≡◌, ℕ, ◌+◌, ◌-◌, ◌*◌, ◌<◌, ◌≤◌, List, [], ◌∷◌, length, MatchResult};
+ghost use Rattle.std.specs.List.{range_with_len, flat_map};
 ghost use Rattle.soundbook.specs.Sounds.{sound_meaning};
-ghost use Rattle.booktext.specs.Written.{put, boxed, blank, line_of, head_line, rule_line, key_line, rules_text, keys_text, lines_in, Stands};
+ghost use Rattle.booktext.specs.Written.{put, boxed, blank, line_of, head_line, rule_line, key_line, rules_text, keys_text, lines_in, Makes, Stands};
 
 use super::fields::set_right;
 use rulebook::{Book, Fault};
 use soundbook::SoundBook;
+use std::ops::Range;
 
 // The field of a number, or a blank one if the number has more than four figures.
 fn field_of(number: u16) -> [u8; 4]
     ensures { result ≡ boxed number }
 {
     let mut field = [b' '; 4];
-    set_right(&mut field, number);
+    // What is too wide leaves the field blank.
+    let _ = set_right(&mut field, number);
     field
 }
 
@@ -26,13 +29,20 @@ fn blank_line(letter: u8) -> [u8; 34]
     line
 }
 
+// Puts bytes in place of those from a place on.
+fn put(space: &mut [u8], from: usize, bytes: &[u8])
+    requires { from + length bytes.now ≤ length space.old }
+    ensures { space.new ≡ put space.old from bytes.now }
+{
+    space[from..from + bytes.len()].copy_from_slice(bytes);
+}
+
 // Sets a number into a field of a line; fields count from 0.
 fn set_field(line: &mut [u8; 34], place: u16, number: u16)
     requires { place < 8 }
     ensures { line.new ≡ put line.old (1 + 4 * place) (boxed number) }
 {
-    let from = 1 + 4 * place as usize;
-    line[from..from + 4].copy_from_slice(&field_of(number));
+    put(line, 1 + 4 * usize::from(place), &field_of(number));
 }
 
 // The first line.
@@ -68,41 +78,31 @@ fn key_line<B: Book>(book: &B, key: u16) -> [u8; 34]
     let mut line = blank_line(b'K');
     set_field(&mut line, 0, key);
     set_field(&mut line, 1, book.kind(key));
+    // By place: a book tells the bytes of a spelling one at a time.
     for at in 0..book.spelling_len(key).min(24) {
-        line[9 + at as usize] = book.spelling_byte(key, at);
+        line[9 + usize::from(at)] = book.spelling_byte(key, at);
     }
     line
 }
 
-// Sets a line at its place in the space; lines count from 0.
-fn set_line(space: &mut [u8], number: usize, line: &[u8; 34])
-    requires { 34 * number + 34 ≤ length space.old }
-    ensures { space.new ≡ put space.old (34 * number) line.now }
+// Sets the lines that are made of some numbers, one after another from a line of the space on.
+fn set_lines<B: Book, F: Fn(&B, u16) -> [u8; 34]>(
+    book: &B,
+    space: &mut [u8],
+    top: usize,
+    numbers: Range<u16>,
+    line: F,
+)
+    requires callable { F.IsAlwaysCallable line }
+    requires upward { numbers.start ≤ numbers.end }
+    requires room { 34 * (top + (numbers.end - numbers.start)) ≤ length space.old }
+    ensures { (f : ℕ → List ℕ)
+        → Makes (λ n l. (b : _) × F.post line b n l × (b.now ≡ book.now)) f
+        → space.new ≡ put space.old (34 * top) (flat_map f (range_with_len numbers.start (numbers.end - numbers.start))) }
 {
-    let from = 34 * number;
-    space[from..from + 34].copy_from_slice(line);
-}
-
-// Sets the lines of the rules.
-fn set_rules<B: Book>(book: &B, space: &mut [u8])
-    requires few { length (B.meaning book.now).grammar.rules ≤ 128 }
-    requires room { 34 * (1 + length (B.meaning book.now).grammar.rules) ≤ length space.old }
-    ensures { space.new ≡ put space.old 34 (rules_text (B.meaning book.now)) }
-{
-    for rule in 1..1 + book.rules() {
-        set_line(space, rule as usize, &rule_line(book, rule));
-    }
-}
-
-// Sets the lines of the keys.
-fn set_keys<B: Book>(book: &B, space: &mut [u8])
-    requires few { (B.meaning book.now).grammar.keys ≤ 32 }
-    requires room { 34 * lines_in (B.meaning book.now) ≤ length space.old }
-    ensures { space.new ≡ put space.old (34 * (1 + length (B.meaning book.now).grammar.rules)) (keys_text (B.meaning book.now)) }
-{
-    let top = 1 + book.rules() as usize;
-    for place in 0..book.keys() {
-        set_line(space, top + place as usize, &key_line(book, 33 + place));
+    for number in numbers.start..numbers.end {
+        let place = top + usize::from(number - numbers.start);
+        put(space, 34 * place, &line(book, number));
     }
 }
 
@@ -110,7 +110,7 @@ fn set_keys<B: Book>(book: &B, space: &mut [u8])
 pub fn written_len<B: Book>(book: &B) -> usize
     ensures { result ≡ 34 * lines_in (B.meaning book.now) }
 {
-    34 * (1 + book.rules() as usize + book.keys() as usize)
+    34 * (1 + usize::from(book.rules()) + usize::from(book.keys()))
 }
 
 // Writes the text of a book at the front of the space; the bytes past it stay.
@@ -121,8 +121,9 @@ pub fn write(book: &SoundBook, space: &mut [u8]) -> Result<usize, Fault>
     if space.len() < len {
         return Err(Fault::SpaceShort);
     }
-    set_line(space, 0, &head_line(book));
-    set_rules(book, space);
-    set_keys(book, space);
+    put(space, 0, &head_line(book));
+    set_lines(book, space, 1, 1..1 + book.rules(), rule_line);
+    let top = 1 + usize::from(book.rules());
+    set_lines(book, space, top, 33..33 + book.keys(), key_line);
     Ok(len)
 }

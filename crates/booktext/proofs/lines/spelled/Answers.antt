@@ -1,13 +1,19 @@
-use Rattle.std.proofs.Common.{take, ap, ◌∙◌}
-use native.Mathlib.Nat.{sub-zero}
-use Rattle.booktext.proofs.Spelled.{spelled_stop, spelled_more, spelled_all}
+use Rattle.std.proofs.Common.{◌≡◌, ◌≢◌, ℕ, ◌+◌, List, ◌∷◌, length, take, unwrap_or, sym, refl, ap, ◌∙◌, add-one, rules, tests}
+use Rattle.std.proofs.lemmas.Iterator.{IsFirst-from_position, YieldsList-from_slice, index_from_first}
+use Rattle.std.proofs.lemmas.Bool.{cond-true, cond-false, eq-eqb, ne_eqb}
+use Rattle.booktext.specs.Text.{spelled}
+use Rattle.booktext.proofs.Spelled.{spelled_front}
 use Rattle.booktext.proofs.lines.spelled.Goals as goal
 
-pub returns-then-byte-eq32 : goal.returns-then-byte-eq32
-returns-then-byte-eq32 c = ap (λ n. take n c.args.columns.now) (sub-zero _) ∙ spelled_stop c.args.columns.now c.loop-i.i c.loop-i.invariant c.loop-i-test.true c.if-byte-eq32.true
+hit : (b : ℕ) (bs : List ℕ) → b ≡ 32 → length (spelled (b ∷ bs)) ≡ 0
+hit b bs e = ap length (cond-true _ _ _ (eq-eqb b 32 e))
 
-pub loop-i-preserved : goal.loop-i-preserved
-loop-i-preserved c = spelled_more c.args.columns.now c.loop-i.i c.loop-i.invariant c.loop-i-test.true c.if-byte-eq32.false
+miss : (b : ℕ) (bs : List ℕ) → b ≢ 32 → length (spelled (b ∷ bs)) ≡ length (spelled bs) + 1
+miss b bs e = ap length (cond-false _ _ _ (ne_eqb b 32 e)) ∙ sym (add-one _)
 
 pub returns : goal.returns
-returns c = spelled_all c.args.columns.now c.loop-i.i c.loop-i.invariant c.loop-i-test.false
+returns c =
+    let xs = c.args.columns.now in
+    let first = IsFirst-from_position _ _ c.position-space.result (λ b. b ≡ 32) (λ b. b ≢ 32) c.position-space.ensures.ran (YieldsList-from_slice xs cc) (λ x q k. search (rules, tests)) (λ x q k. search (rules, tests)) in
+    let all : length (spelled xs) ≡ unwrap_or c.position-space.result (length xs) = index_from_first (λ bs. length (spelled bs)) (λ b. b ≡ 32) (λ b. b ≢ 32) refl hit miss xs c.position-space.result first in
+    ap (λ n. take n xs) (c.unwrap_or.ensures ∙ sym all) ∙ spelled_front xs

@@ -6,11 +6,6 @@ use Rattle.booktext.proofs.Asking.{asked_err, no_at, loop_more}
 use Rattle.booktext.proofs.Meant.{text_rules, text_keys}
 use Rattle.booktext.proofs.reads.key_lines.Goals as goal
 
-pub key_line-requires : goal.key_line-requires
-key_line-requires c =
-    let t = c.args.book.now.text.now in
-    omega (arith, c.requires, c.rules-rules.ensures, c.keys-place-end.ensures.count, text_rules t, text_keys t)
-
 pub returns-in_err-key_line : goal.returns-in_err-key_line
 returns-in_err-key_line c =
     let t = c.args.book.now.text.now in

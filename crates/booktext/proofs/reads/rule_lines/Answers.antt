@@ -6,9 +6,6 @@ use Rattle.booktext.proofs.Asking.{asked_err, no_at, loop_more}
 use Rattle.booktext.proofs.Meant.{text_rules}
 use Rattle.booktext.proofs.reads.rule_lines.Goals as goal
 
-pub rule_line-requires : goal.rule_line-requires
-rule_line-requires c = omega (arith, c.requires, c.rules.ensures, text_rules c.args.book.now.text.now)
-
 pub returns-in_err-rule_line : goal.returns-in_err-rule_line
 returns-in_err-rule_line c =
     let t = c.args.book.now.text.now in

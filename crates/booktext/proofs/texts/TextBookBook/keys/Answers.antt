@@ -5,4 +5,4 @@ use Rattle.booktext.proofs.texts.TextBookBook.keys.Goals as goal
 
 pub returns : goal.returns
 unfolding text_meaning
-returns c = record { count = c.field.ensures; forms = c.field.ensures ∙ sym (length-map-range_with_len _ 0 (number_at c.args.self.now.text.now 0 1)) }
+returns c = record { count = c.number_at.ensures; forms = c.number_at.ensures ∙ sym (length-map-range_with_len _ 0 (number_at c.args.self.now.text.now 0 1)) }

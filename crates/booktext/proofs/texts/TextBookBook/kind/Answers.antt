@@ -3,4 +3,4 @@ use Rattle.booktext.proofs.Meant.{kind_answers}
 use Rattle.booktext.proofs.texts.TextBookBook.kind.Goals as goal
 
 pub returns : goal.returns
-returns c = c.field.ensures ∙ kind_answers c.args.self.now.text.now c.args.key c.key_line.result c.key_line.ensures
+returns c = c.number_on.ensures ∙ kind_answers c.args.self.now.text.now c.args.key c.key_line.result c.key_line.ensures

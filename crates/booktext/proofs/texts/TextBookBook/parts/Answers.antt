@@ -3,4 +3,4 @@ use Rattle.booktext.proofs.texts.TextBookBook.parts.Goals as goal
 
 pub returns : goal.returns
 unfolding text_meaning
-returns c = c.field.ensures
+returns c = c.number_at.ensures

@@ -5,4 +5,4 @@ use Rattle.booktext.proofs.texts.TextBookBook.rules.Goals as goal
 
 pub returns : goal.returns
 unfolding text_meaning
-returns c = c.field.ensures ∙ sym (length-map-range_with_len _ 0 (number_at c.args.self.now.text.now 0 3))
+returns c = c.number_at.ensures ∙ sym (length-map-range_with_len _ 0 (number_at c.args.self.now.text.now 0 3))

@@ -1,0 +1,6 @@
+use Rattle.std.proofs.Common.{◌-◌}
+use Rattle.booktext.specs.Form.{AllYes, blanks}
+use Rattle.booktext.proofs.reads.Line.blanks.Given as goal
+
+abbrev pub invariant-loop-place : goal.invariant-loop-place
+invariant-loop-place l = AllYes (blanks l.self.number l.self.middle.now l.from (l.place - l.from))

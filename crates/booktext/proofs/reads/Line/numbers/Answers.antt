@@ -1,0 +1,14 @@
+use Rattle.std.proofs.Common.{[], ◌∷◌}
+use Rattle.booktext.specs.Text.{field_of}
+use Rattle.booktext.specs.Form.{asks_number}
+use Rattle.booktext.proofs.Asking.{asked_err, loop_more, loop_stop}
+use Rattle.booktext.proofs.reads.Line.numbers.Goals as goal
+
+pub returns-in_err-number_at : goal.returns-in_err-number_at
+returns-in_err-number_at c =
+    asked_err _ c.from_residual.result _ c.from_residual.ensures.1
+    (loop_stop (λ k. asks_number c.args.self.now.number k (field_of c.args.self.now.middle.now k) ∷ []) c.args.from c.args.past c.loop-place.place _ c.loop-place.auto.place c.loop-place-test.true c.loop-place.invariant c.in_err-number_at.ensures.asked)
+
+pub loop-place-preserved : goal.loop-place-preserved
+loop-place-preserved c =
+    loop_more (λ k. asks_number c.args.self.now.number k (field_of c.args.self.now.middle.now k) ∷ []) c.args.from c.loop-place.place c.loop-place.auto.place c.loop-place.invariant c.in_ok-number_at.ensures.asked
