@@ -1,10 +1,21 @@
 -- What is copied of a book to fixed memory.
-use Rattle.std.specs.Prelude.{◌≡◌, ℕ, ◌+◌, ◌<◌, ◌≤◌, ◌⊎◌, List, slice_index, slice_index_or}
+use Rattle.std.specs.Prelude.{Result, Ok, Err, ◌≡◌, ℕ, ◌+◌, ◌<◌, ◌≤◌, ◌⊎◌, List, slice_index, slice_index_or}
 use Rattle.language.specs.Book.{Grammar, Meaning, Rule, rule, form, Part, Key}
 use Rattle.language.specs.Sound.{RuleFits, Letter, FormFits}
 use Rattle.soundbook.specs.Rows.{rule_of, form_of, blank_rule, blank_key}
 use Rattle.soundbook.specs.declared.rows.RuleRow.{RuleRow}
 use Rattle.soundbook.specs.declared.rows.KeyRow.{KeyRow}
+
+-- the items for the first n places are made, and stand there
+pub record Filled {X E : Type 0} (Made : ℕ → Result X E → Type 0) (blank : X) (n : ℕ) (xs : List X) : Type 0 where
+  pub made : (i : ℕ) → i < n → Made i (Ok (slice_index_or xs i blank))
+
+-- of the first n places one is refused, and an item is made for each before it
+pub record FirstRefused {X E : Type 0} (Made : ℕ → Result X E → Type 0) (n : ℕ) (e : E) : Type 0 where
+  pub at : ℕ
+  pub inside : at < n
+  pub before : (i : ℕ) → i < at → (x : X) × Made i (Ok x)
+  pub refused : Made at (Err e)
 
 -- the first n rows mean what is wanted there, and each of that fits
 pub record Copied {X Y : Type 0} (read : X → Y) (blank : X) (want : ℕ → Y) (Fits : Y → Type 0) (n : ℕ) (rows : List X) : Type 0 where

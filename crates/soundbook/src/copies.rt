@@ -5,12 +5,25 @@ ghost use Rattle.language.specs.Sound.{CountsFit, RuleFits, Letter, FormFits, We
 ghost use Rattle.soundbook.specs.Rows.{rule_of, form_of};
 ghost use Rattle.soundbook.specs.Tables.{meaning_of, Counted};
 ghost use Rattle.soundbook.specs.Refusals.{SymbolFault, RuleRefused, RulesRefused, KeysRefused, CopyRefused};
-ghost use Rattle.soundbook.specs.Copies.{SymbolsCopied, RulesCopied, LettersCopied, LengthFits, KeysCopied};
+ghost use Rattle.soundbook.specs.Copies.{Filled, FirstRefused, SymbolsCopied, RulesCopied, LettersCopied, LengthFits, KeysCopied};
 ghost use Rattle.rulebook.specs.declared.faults.Fault.TheVariants.{Counts as CountsFault};
 
 use super::rows::{KeyRow, RuleRow};
 use super::tables::{Counts, Table};
 use rulebook::{Book, Fault};
+
+// An array whose first places hold the items that are made for them, or the first refusal of one.
+fn filled<T: Copy, E, const N: usize, F: Fn(u16) -> Result<T, E>>(blank: T, count: u16, item: F) -> Result<[T; N], E>
+    requires room { count ≤ N }
+    requires callable { (i : ℕ) → i < count → F.pre item i }
+    ensures { MatchResult result (Filled (F.post item) blank count) (FirstRefused (F.post item) count) }
+{
+    let mut items = [blank; N];
+    for place in 0..count {
+        items[usize::from(place)] = item(place)?;
+    }
+    Ok(items)
+}
 
 // Whether a number lies between two bounds, both included.
 fn within(number: u16, least: u16, most: u16) -> bool
