@@ -1,7 +1,7 @@
 -- What is copied of a book to fixed memory.
-use Rattle.std.specs.Prelude.{Result, Ok, Err, ◌≡◌, ℕ, ◌+◌, ◌<◌, ◌≤◌, ◌⊎◌, List, slice_index, slice_index_or}
-use Rattle.language.specs.Book.{Grammar, Meaning, Rule, rule, form, Part, Key}
-use Rattle.language.specs.Sound.{RuleFits, Letter, FormFits}
+use Rattle.std.specs.Prelude.{Result, Ok, Err, ◌≡◌, ℕ, ◌+◌, ◌<◌, ◌≤◌, ◌⊎◌, List, slice_index_or}
+use Rattle.language.specs.Book.{Grammar, Meaning, rule, form}
+use Rattle.language.specs.Sound.{RuleFits, FormFits}
 use Rattle.soundbook.specs.Rows.{rule_of, form_of, blank_rule, blank_key}
 use Rattle.soundbook.specs.declared.rows.RuleRow.{RuleRow}
 use Rattle.soundbook.specs.declared.rows.KeyRow.{KeyRow}
@@ -21,14 +21,6 @@ pub record FirstRefused {X E : Type 0} (Made : ℕ → Result X E → Type 0) (n
 pub record Copied {X Y : Type 0} (read : X → Y) (blank : X) (want : ℕ → Y) (Fits : Y → Type 0) (n : ℕ) (rows : List X) : Type 0 where
   pub same : (i : ℕ) → i < n → read (slice_index_or rows i blank) ≡ want i
   pub fits : (i : ℕ) → i < n → Fits (want i)
-
--- the first n symbols of the right side of w, each a part or a key
-abbrev pub SymbolsCopied : Grammar → Rule → ℕ → List ℕ → Type 0
-SymbolsCopied g w n = Copied (λ c. c) 0 (λ d. slice_index w.body d) (λ c. Part g c ⊎ Key g c) n
-
--- the first n bytes of a spelling, each a letter
-abbrev pub LettersCopied : List ℕ → ℕ → List ℕ → Type 0
-LettersCopied s n = Copied (λ b. b) 0 (λ i. slice_index s i) Letter n
 
 -- the first n rules, each in form
 abbrev pub RulesCopied : Grammar → ℕ → List RuleRow → Type 0
