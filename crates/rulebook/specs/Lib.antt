@@ -1,3 +1,5 @@
 pub mod Fault
+pub mod Kinds
 pub mod Presses
+pub mod Sentences
 pub mod Sets

@@ -53,19 +53,12 @@ pub trait Book {
 pub fn place_of(number: u16, first: u16, count: u16) -> Option<u16>
     ensures { MatchOption result ((number < first) ⊎ (first + count ≤ number)) (λ i. (i < count) × (first + i ≡ number)) }
 {
-    if number < first {
-        return None;
-    }
-    let place = number - first;
-    if place < count { Some(place) } else { None }
+    number.checked_sub(first).filter(|place| *place < count)
 }
 
 // The item at a place, counted from 0, or what stands in for one past the end.
 pub fn item_or<T: Copy>(items: &[T], place: u16, past: T) -> T
     ensures { result ≡ slice_index_or items.now place past }
 {
-    match items.get(place as usize) {
-        Some(item) => *item,
-        None => past,
-    }
+    items.get(usize::from(place)).map_or(past, |item| *item)
 }

@@ -1,9 +1,13 @@
 // The refusals. Each variant is one answer of the product, named by what went wrong, and holds its places.
-ghost use Rattle.std.specs.Prelude.{◌≡◌};
+ghost use Rattle.std.specs.Prelude.{◌≡◌, Some};
 ghost use Rattle.rulebook.specs.Fault.{number_of, layer_of, first_of, second_of};
+ghost use Rattle.rulebook.specs.Sentences.{mark_words, sentence_of};
+
+use std::error::Error;
+use std::fmt;
 
 // Lines, columns, rules, places, words, moves and bytes count from 1.
-#[derive(Clone, Copy, Debug)]
+#[derive(Clone, Copy, Debug, PartialEq, Eq, Hash)]
 pub enum Fault {
     // the text of a book
     TextLength,
@@ -122,3 +126,97 @@ impl Fault {
         }
     }
 }
+
+// What a line holds in a column that is no part of its fields.
+fn mark_words(column: usize) -> &'static str
+    ensures { result.now ≡ mark_words column }
+{
+    if column == 1 {
+        "the letter of the line"
+    } else {
+        "a newline"
+    }
+}
+
+// The refusal as a sentence.
+impl fmt::Display for Fault {
+    ghost output = { λ f. Some (sentence_of f) };
+
+    fn fmt<W: fmt::Write>(&self, f: &mut fmt::Formatter<W>) -> fmt::Result {
+        match self {
+            Fault::TextLength => write!(
+                f,
+                "the text is empty, too long, or not 34 bytes for each line"
+            ),
+            Fault::LineMark { line, column } => {
+                let wanted = mark_words(*column);
+                write!(f, "line {line}: column {column} does not hold {wanted}")
+            }
+            Fault::FieldForm { line, column } => write!(
+                f,
+                "line {line}: the field at column {column} is out of form"
+            ),
+            Fault::KeyNumber { line } => write!(
+                f,
+                "line {line}: the key number is not 32 plus the place of the line among the key lines"
+            ),
+            Fault::LineCount => write!(f, "line 1: the number of lines is not 1 + rules + keys"),
+            Fault::SpaceShort => write!(f, "the text cannot be written back"),
+            Fault::ProgrammeLength => write!(f, "the programme is too long"),
+            Fault::WordByte { byte } => write!(
+                f,
+                "byte {byte} does not fit the first byte of its word"
+            ),
+            Fault::WordLength { byte } => write!(f, "byte {byte}: the word is too long"),
+            Fault::Counts => write!(
+                f,
+                "a book has 1 to 32 parts, 1 to 32 keys, a start among its parts and 1 to 128 rules"
+            ),
+            Fault::LeftSide { rule } => write!(f, "rule {rule}: the left side is not a part"),
+            Fault::EmptyRule { rule } => write!(f, "rule {rule}: the right side is empty"),
+            Fault::LongRule { rule } => write!(
+                f,
+                "rule {rule}: the right side has more than 6 symbols"
+            ),
+            Fault::UnknownSymbol { rule, place } => write!(
+                f,
+                "rule {rule}: symbol {place} is neither a part nor a key"
+            ),
+            Fault::KeyForm { key } => write!(
+                f,
+                "key {key}: the kind and the spelling do not go together"
+            ),
+            Fault::Unproductive { part } => write!(
+                f,
+                "part {part} cannot be turned into keys alone"
+            ),
+            Fault::UnitCycle { part } => write!(
+                f,
+                "part {part} is turned into itself alone by rules of length 1"
+            ),
+            Fault::DraftFull { held } => write!(f, "{held} words are held, and no more fit"),
+            Fault::DarkWord { held } => write!(
+                f,
+                "after {held} words: the word matches no lit key"
+            ),
+            Fault::ChartFull { held } => write!(
+                f,
+                "after {held} words: the chart has too few places"
+            ),
+            Fault::NothingHeld { .. } => write!(f, "no word is held"),
+            Fault::NotWhole { held } => write!(f, "the {held} words held are not a programme"),
+            Fault::StripShort { held } => write!(
+                f,
+                "the strip is too short for a reading of the {held} words held"
+            ),
+            Fault::MoveRefused { at } => write!(f, "move {at} is not allowed"),
+            Fault::StacksLeft { moves } => write!(
+                f,
+                "after {moves} moves the stacks are not empty"
+            ),
+            Fault::StackFull { at } => write!(f, "move {at}: a stack is full"),
+        }
+    }
+}
+
+impl Error for Fault {}

@@ -26,7 +26,7 @@ fn mask_with(mask: u64, symbol: u16) -> u64
 }
 
 // A set of symbols from 1 to 64, as a mask: symbol c stands at bit c - 1.
-#[derive(Clone, Copy)]
+#[derive(Clone, Copy, Debug, PartialEq, Eq, Hash)]
 pub struct SymbolSet {
     mask: u64,
 }
@@ -48,7 +48,7 @@ impl SymbolSet {
     pub fn same(&self, other: &SymbolSet) -> bool
         ensures { result ≡ (self.now.mask == other.now.mask) }
     {
-        self.mask == other.mask
+        self == other
     }
 
     // The set with one symbol more; a number that is no symbol leaves it.
