@@ -1,12 +1,15 @@
 -- What one step of copying a book to fixed memory keeps.
-use Rattle.std.proofs.Common.{Result, Ok, Err, ◌≡◌, ℕ, ◌+◌, ◌-◌, ◌<◌, ◌≤◌, Bool, true, false, ◌⊎◌, List, length, get_or, Decides, MatchResult, sym, ◌∙◌, subst, ⊎_elim, add_comm, arith}
+use Rattle.std.proofs.Common.{Result, Ok, Err, ◌≡◌, ℕ, ◌+◌, ◌-◌, ◌<◌, ◌≤◌, Bool, true, false, ◌⊎◌, List, length, get_or, Decides, MatchResult, sym, ◌∙◌, subst, add_comm, arith}
 use Rattle.std.proofs.lemmas.List.FromFn.{length-map-range_with_len}
 use Rattle.std.proofs.lemmas.List.{ext_get_or}
 use Rattle.std.proofs.lemmas.Result.{MatchResult-weaker}
 use Rattle.std.proofs.lemmas.Bool.Decides.{not_from_Decides}
 use Rattle.language.specs.Book.{Grammar, Meaning, KeyForm as Form, norule, noform, rule, left, right, size, symbol, form, kind, spelling, Part, Key, Numbered}
-use Rattle.language.specs.Sound.{RuleFits, Letter, Lettered, FormFits}
+use Rattle.language.specs.Sound.{RuleFits, Letter, FormFits}
 use Rattle.language.proofs.Told.{place_inside, places_of, rule_place, form_place}
+use Rattle.rulebook.specs.Kinds.{kind_number}
+use Rattle.rulebook.specs.declared.kinds.KeyKind.{KeyKind}
+use Rattle.rulebook.specs.declared.kinds.KeyKind.TheVariants.{Full, Figure, Shortened}
 use Rattle.soundbook.specs.Copies.{Filled, FirstRefused, Copied, RulesCopied, KeysCopied, LengthFits}
 use Rattle.soundbook.specs.Refusals.{SymbolFault, RuleRefused, RulesRefused, KeysRefused}
 use Rattle.soundbook.specs.Rows.{rule_of, form_of, blank_rule, blank_key}
@@ -52,15 +55,18 @@ module _ {Made : ℕ → Result ℕ Fault → Type 0} (g : Grammar) (r : ℕ) wh
     },
   )
 
+-- a spelling of letters whose length goes with its kind
+fits_by_kind : (k : KeyKind) (w : Form) → kind_number k ≡ w.kind → LengthFits k (length w.spelling) → ((i : ℕ) → i < length w.spelling → Letter (get_or w.spelling i 0)) → FormFits w
+fits_by_kind Full w k fit each = FormFits.named (sym k) (record { low = fit.0; high = fit.1; letters = each })
+fits_by_kind Figure w k fit each = FormFits.figure (sym k) fit
+fits_by_kind Shortened w k fit each = FormFits.shortened (sym k) (record { low = fit.0; high = fit.1; letters = each })
+
 -- the row of a key whose letters are read
-pub key_read : {Made : ℕ → Result ℕ Fault → Type 0} (fs : List Form) (c : ℕ) (w : KeyRow) → Filled Made 0 w.len w.bytes → ((i x : ℕ) → i < w.len → Made i (Ok x) → (x ≡ get_or (spelling fs c) i 0) × Letter (get_or (spelling fs c) i 0)) → w.kind ≡ kind fs c → w.len ≡ length (spelling fs c) → LengthFits w.kind w.len → (form_of w ≡ form fs c) × FormFits (form fs c)
-key_read fs c w h ok k n fit =
-    let lettered : (least : ℕ) → least ≤ w.len → w.len ≤ 24 → Lettered least (form fs c).spelling =
-    λ least low high. record { low = omega arith; high = omega arith; letters = λ i b. let inside : i < w.len = omega arith in (ok i _ inside (h.made i inside)).1 } in (
-      λ i. record { kind = k i; spelling = places_of w.bytes (spelling fs c) w.len n (λ d b. (ok d _ b (h.made d b)).0) i },
-      ⊎_elim (λ f. FormFits.named (sym k ∙ f.0) (lettered 1 f.1 f.2))
-          (⊎_elim (λ f. FormFits.figure (sym k ∙ f.0) (sym n ∙ f.1)) (λ f. FormFits.shortened (sym k ∙ f.0) (lettered 3 f.1 f.2))) fit,
-    )
+pub key_read : {Made : ℕ → Result ℕ Fault → Type 0} (fs : List Form) (c : ℕ) (w : KeyRow) → Filled Made 0 w.len w.bytes → ((i x : ℕ) → i < w.len → Made i (Ok x) → (x ≡ get_or (spelling fs c) i 0) × Letter (get_or (spelling fs c) i 0)) → kind_number w.kind ≡ kind fs c → w.len ≡ length (spelling fs c) → LengthFits w.kind w.len → (form_of w ≡ form fs c) × FormFits (form fs c)
+key_read fs c w h ok k n fit = (
+  λ i. record { kind = k i; spelling = places_of w.bytes (spelling fs c) w.len n (λ d b. (ok d _ b (h.made d b)).0) i },
+  fits_by_kind w.kind (form fs c) k (subst (LengthFits w.kind) n fit) (λ i b. let inside : i < w.len = omega arith in (ok i _ inside (h.made i inside)).1),
+)
 
 -- what holds of the next n numbers from least holds at each of them
 at_place : (P : ℕ → Type 0) (least n : ℕ) → ((i : ℕ) → i < n → P (least + i)) → (q : ℕ) → least ≤ q → q < least + n → P q

@@ -1,8 +1,10 @@
 -- What is copied of a book to fixed memory.
-use Rattle.std.specs.Prelude.{Result, Ok, Err, ◌≡◌, ℕ, ◌+◌, ◌<◌, ◌≤◌, ◌⊎◌, List, slice_index_or}
+use Rattle.std.specs.Prelude.{Result, Ok, Err, ◌≡◌, ℕ, ◌+◌, ◌<◌, ◌≤◌, List, slice_index_or}
 use Rattle.language.specs.Book.{Grammar, Meaning, rule, form}
 use Rattle.language.specs.Sound.{RuleFits, FormFits}
 use Rattle.soundbook.specs.Rows.{rule_of, form_of, blank_rule, blank_key}
+use Rattle.rulebook.specs.declared.kinds.KeyKind.{KeyKind}
+use Rattle.rulebook.specs.declared.kinds.KeyKind.TheVariants.{Full, Figure, Shortened}
 use Rattle.soundbook.specs.declared.rows.RuleRow.{RuleRow}
 use Rattle.soundbook.specs.declared.rows.KeyRow.{KeyRow}
 
@@ -31,5 +33,7 @@ abbrev pub KeysCopied : Meaning → ℕ → List KeyRow → Type 0
 KeysCopied m n = Copied form_of blank_key (λ i. form m.forms (33 + i)) FormFits n
 
 -- a spelling of so many bytes goes with the kind
-abbrev pub LengthFits : ℕ → ℕ → Type 0
-LengthFits kind n = ((kind ≡ 0) × (1 ≤ n) × (n ≤ 24)) ⊎ (((kind ≡ 1) × (n ≡ 0)) ⊎ ((kind ≡ 2) × (3 ≤ n) × (n ≤ 24)))
+abbrev pub LengthFits : KeyKind → ℕ → Type 0
+LengthFits Full n = (1 ≤ n) × (n ≤ 24)
+LengthFits Figure n = n ≡ 0
+LengthFits Shortened n = (3 ≤ n) × (n ≤ 24)

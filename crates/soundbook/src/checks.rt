@@ -11,7 +11,7 @@ use super::derivations::{cyclic, unproductive};
 use super::rows::{KeyRow, RuleRow};
 use super::sounds::SoundBook;
 use super::tables::{Counts, Table};
-use rulebook::{Book, Fault};
+use rulebook::{Book, Fault, KeyKind};
 
 // The table of a sound book, or the first question answered no.
 fn sound_table<B: Book>(book: &B) -> Result<Table, Fault>
@@ -65,7 +65,7 @@ fn smallest_key() -> KeyRow
     ensures { form_of result ≡ record { kind = 0; spelling = codes "a" } }
 {
     KeyRow {
-        kind: 0,
+        kind: KeyKind::Full,
         len: 1,
         bytes: *b"a\0\0\0\0\0\0\0\0\0\0\0\0\0\0\0\0\0\0\0\0\0\0\0",
     }

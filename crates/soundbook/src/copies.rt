@@ -10,7 +10,7 @@ ghost use Rattle.rulebook.specs.declared.faults.Fault.TheVariants.{Counts as Cou
 
 use super::rows::{KeyRow, RuleRow};
 use super::tables::{Counts, Table};
-use rulebook::{Book, Fault};
+use rulebook::{Book, Fault, KeyKind};
 
 // An array whose first places hold the items that are made for them, or the first refusal of one.
 fn filled<T: Copy, E, const N: usize, F: Fn(u16) -> Result<T, E>>(
@@ -143,12 +143,11 @@ impl<B: Book> Source<'_, B> {
     fn key(&self, key: u16) -> Result<KeyRow, Fault>
         ensures { let w = form_in (B.meaning self.now.book.now).forms key in MatchResult result (λ row. (form_of row ≡ w) × FormFits w) (λ f. (f ≡ KeyForm key) × (FormFits w → ⊥)) }
     {
-        let kind = self.book.kind(key);
+        let refusal = Fault::KeyForm { key: key as usize };
+        let kind = KeyKind::try_from(self.book.kind(key)).map_err(|_| refusal)?;
         let len = self.book.spelling_len(key);
         if !length_fits(kind, len) {
-            return Err(Fault::KeyForm {
-                key: usize::from(key),
-            });
+            return Err(refusal);
         }
         let bytes = filled(0, len, |at| self.letter(key, at))?;
         Ok(KeyRow { kind, len, bytes })
@@ -174,14 +173,13 @@ pub fn is_letter(byte: u8) -> bool
 }
 
 // Whether a key of that kind may have a spelling of that length.
-fn length_fits(kind: u16, len: u16) -> bool
+fn length_fits(kind: KeyKind, len: u16) -> bool
     ensures { IsTrue result ↔ LengthFits kind len }
 {
     match kind {
-        0 => (1..=24).contains(&len),
-        1 => len == 0,
-        2 => (3..=24).contains(&len),
-        _ => false,
+        KeyKind::Full => (1..=24).contains(&len),
+        KeyKind::Figure => len == 0,
+        KeyKind::Shortened => (3..=24).contains(&len),
     }
 }
 

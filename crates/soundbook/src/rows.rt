@@ -1,9 +1,10 @@
 // Rows of fixed memory: a rule of at most six symbols, and the form of a key.
 ghost use Rattle.std.specs.Prelude.{◌≡◌, length, slice_index};
 ghost use Rattle.language.specs.Book.{rule as rule_in, form as form_in};
+ghost use Rattle.rulebook.specs.Kinds.{kind_number};
 ghost use Rattle.soundbook.specs.Rows.{rule_of, form_of, rules_in, forms_in};
 
-use rulebook::{item_or, place_of};
+use rulebook::{KeyKind, item_or, place_of};
 
 // A rule; its symbols past the sixth are 0.
 #[derive(Clone, Copy)]
@@ -35,14 +36,14 @@ impl RuleRow {
 // The form of a key; its bytes past the twenty-fourth are 0.
 #[derive(Clone, Copy)]
 pub struct KeyRow {
-    pub kind: u16,
+    pub kind: KeyKind,
     pub len: u16,
     pub bytes: [u8; 24],
 }
 
 impl KeyRow {
     pub const BLANK: KeyRow = KeyRow {
-        kind: 0,
+        kind: KeyKind::Full,
         len: 0,
         bytes: [0; 24],
     };
@@ -73,7 +74,7 @@ pub(super) fn rule_row(rows: &[RuleRow], count: u16, rule: u16) -> RuleRow
 
 // The row of a key among the first count rows, or the blank row.
 pub(super) fn key_row(rows: &[KeyRow], count: u16, key: u16) -> KeyRow
-    ensures kind { result.kind ≡ (form_in (forms_in rows.now count) key).kind }
+    ensures kind { kind_number result.kind ≡ (form_in (forms_in rows.now count) key).kind }
     ensures len { result.len ≡ length (form_in (forms_in rows.now count) key).spelling }
     ensures spelling { (form_of result).spelling ≡ (form_in (forms_in rows.now count) key).spelling }
 {

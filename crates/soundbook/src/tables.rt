@@ -53,7 +53,7 @@ impl Book for Table {
     }
 
     fn kind(&self, key: u16) -> u16 {
-        key_row(&self.keys, self.counts.keys, key).kind
+        u16::from(key_row(&self.keys, self.counts.keys, key).kind)
     }
 
     fn spelling_len(&self, key: u16) -> u16 {

@@ -2,7 +2,7 @@
 ghost use Rattle.soundbook.specs.Works.{works};
 
 use super::rows::{KeyRow, RuleRow, key_row, rule_row};
-use rulebook::Book;
+use rulebook::{Book, KeyKind};
 
 const RULES: [RuleRow; 5] = [
     RuleRow {
@@ -34,27 +34,27 @@ const RULES: [RuleRow; 5] = [
 
 const KEYS: [KeyRow; 5] = [
     KeyRow {
-        kind: 0,
+        kind: KeyKind::Full,
         len: 5,
         bytes: *b"press\0\0\0\0\0\0\0\0\0\0\0\0\0\0\0\0\0\0\0",
     },
     KeyRow {
-        kind: 0,
+        kind: KeyKind::Full,
         len: 4,
         bytes: *b"hold\0\0\0\0\0\0\0\0\0\0\0\0\0\0\0\0\0\0\0\0",
     },
     KeyRow {
-        kind: 1,
+        kind: KeyKind::Figure,
         len: 0,
         bytes: [0; 24],
     },
     KeyRow {
-        kind: 0,
+        kind: KeyKind::Full,
         len: 6,
         bytes: *b"repeat\0\0\0\0\0\0\0\0\0\0\0\0\0\0\0\0\0\0",
     },
     KeyRow {
-        kind: 0,
+        kind: KeyKind::Full,
         len: 3,
         bytes: *b"end\0\0\0\0\0\0\0\0\0\0\0\0\0\0\0\0\0\0\0\0\0",
     },
@@ -95,7 +95,7 @@ impl Book for WorksBook {
     }
 
     fn kind(&self, key: u16) -> u16 {
-        key_row(&KEYS, 5, key).kind
+        u16::from(key_row(&KEYS, 5, key).kind)
     }
 
     fn spelling_len(&self, key: u16) -> u16 {
