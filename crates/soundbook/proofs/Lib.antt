@@ -1,5 +1,6 @@
 pub mod Copying
 pub mod Deriving
 pub mod Growing
+pub mod Listing
 pub mod Refusing
 pub mod Smallest

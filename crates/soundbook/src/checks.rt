@@ -8,9 +8,9 @@ ghost use Rattle.soundbook.specs.Tables.{meaning_of};
 
 use super::copies::table_of;
 use super::derivations::{cyclic, unproductive};
-use super::rows::{KeyRow, RuleRow};
+use super::rows::{KeyRow, RuleRow, Short};
 use super::sounds::SoundBook;
-use super::tables::{Counts, Table};
+use super::tables::Table;
 use rulebook::{Book, Fault, KeyKind};
 
 // The table of a sound book, or the first question answered no.
@@ -55,8 +55,10 @@ fn smallest_rule() -> RuleRow
 {
     RuleRow {
         left: 1,
-        size: 1,
-        symbols: [33, 0, 0, 0, 0, 0],
+        body: Short {
+            len: 1,
+            items: [33, 0, 0, 0, 0, 0],
+        },
     }
 }
 
@@ -66,8 +68,10 @@ fn smallest_key() -> KeyRow
 {
     KeyRow {
         kind: KeyKind::Full,
-        len: 1,
-        bytes: *b"a\0\0\0\0\0\0\0\0\0\0\0\0\0\0\0\0\0\0\0\0\0\0\0",
+        spelling: Short {
+            len: 1,
+            items: *b"a\0\0\0\0\0\0\0\0\0\0\0\0\0\0\0\0\0\0\0\0\0\0\0",
+        },
     }
 }
 
@@ -75,21 +79,22 @@ fn smallest_key() -> KeyRow
 pub fn smallest_book() -> SoundBook
     ensures { sound_meaning result ≡ smallest }
 {
-    let counts = Counts {
-        parts: 1,
-        keys: 1,
-        start: 1,
-        rules: 1,
-    };
     let mut rules = [RuleRow::BLANK; 128];
     rules[0] = smallest_rule();
     let mut keys = [KeyRow::BLANK; 32];
     keys[0] = smallest_key();
     SoundBook {
         table: Table {
-            counts,
-            rules,
-            keys,
+            parts: 1,
+            start: 1,
+            rules: Short {
+                len: 1,
+                items: rules,
+            },
+            keys: Short {
+                len: 1,
+                items: keys,
+            },
         },
     }
 }

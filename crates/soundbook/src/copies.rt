@@ -1,32 +1,32 @@
 // The first half of the check: a book's counts, rules and keys are asked one by one and copied to fixed memory.
 ghost use Rattle.std.specs.Prelude.{◌≡◌, ℕ, ◌+◌, ◌<◌, ◌≤◌, ◌⊎◌, ◌↔◌, IsTrue, MatchResult, slice_index};
-ghost use Rattle.language.specs.Book.{rule as rule_in, form as form_in, symbol as symbol_of, spelling as spelling_of, Part, Key};
+ghost use Rattle.language.specs.Book.{rule as rule_in, form as form_in, symbol as symbol_of, spelling as spelling_of, Part, Key, Numbered};
 ghost use Rattle.language.specs.Sound.{CountsFit, RuleFits, Letter, FormFits, WellFormed};
-ghost use Rattle.soundbook.specs.Rows.{rule_of, form_of};
+ghost use Rattle.soundbook.specs.Rows.{listed, rule_of, form_of, blank_rule, blank_key};
 ghost use Rattle.soundbook.specs.Tables.{meaning_of, Counted};
 ghost use Rattle.soundbook.specs.Refusals.{RuleRefused, RulesRefused, KeysRefused, CopyRefused};
-ghost use Rattle.soundbook.specs.Copies.{Filled, FirstRefused, RulesCopied, LengthFits, KeysCopied};
+ghost use Rattle.soundbook.specs.Copies.{Made, FirstRefused, LengthFits};
 ghost use Rattle.rulebook.specs.declared.faults.Fault.TheVariants.{Counts as CountsFault, UnknownSymbol, KeyForm};
 
-use super::rows::{KeyRow, RuleRow};
+use super::rows::{KeyRow, RuleRow, Short};
 use super::tables::{Counts, Table};
 use rulebook::{Book, Fault, KeyKind};
 
-// An array whose first places hold the items that are made for them, or the first refusal of one.
+// Items that are made one by one, or the first refusal of one.
 fn filled<T: Copy, E, const N: usize, F: Fn(u16) -> Result<T, E>>(
     blank: T,
     count: u16,
     item: F,
-) -> Result<[T; N], E>
+) -> Result<Short<T, N>, E>
     requires room { count ≤ N }
     requires callable { (i : ℕ) → i < count → F.pre item i }
-    ensures { MatchResult result (Filled (F.post item) blank count) (FirstRefused (F.post item) count) }
+    ensures { MatchResult result (Made (F.post item) blank count) (FirstRefused (F.post item) count) }
 {
     let mut items = [blank; N];
     for place in 0..count {
         items[usize::from(place)] = item(place)?;
     }
-    Ok(items)
+    Ok(Short { len: count, items })
 }
 
 // The counts of a book, if they are in bounds.
@@ -106,17 +106,13 @@ impl<B: Book> Source<'_, B> {
         if size > 6 {
             return Err(Fault::LongRule { rule: number });
         }
-        let symbols = filled(0, size, |at| self.symbol(rule, at))?;
-        Ok(RuleRow {
-            left,
-            size,
-            symbols,
-        })
+        let body = filled(0, size, |at| self.symbol(rule, at))?;
+        Ok(RuleRow { left, body })
     }
 
     // All rules, if each fits.
-    fn rules(&self) -> Result<[RuleRow; 128], Fault>
-        ensures { let g = (B.meaning self.now.book.now).grammar in MatchResult result (RulesCopied g self.now.counts.rules) (RulesRefused g) }
+    fn rules(&self) -> Result<Short<RuleRow, 128>, Fault>
+        ensures { let g = (B.meaning self.now.book.now).grammar in MatchResult result (λ s. (listed rule_of blank_rule s ≡ g.rules) × ((r : ℕ) → Numbered g r → RuleFits g (rule_in g.rules r))) (RulesRefused g) }
     {
         filled(
             RuleRow::BLANK,
@@ -149,13 +145,13 @@ impl<B: Book> Source<'_, B> {
         if !length_fits(kind, len) {
             return Err(refusal);
         }
-        let bytes = filled(0, len, |at| self.letter(key, at))?;
-        Ok(KeyRow { kind, len, bytes })
+        let spelling = filled(0, len, |at| self.letter(key, at))?;
+        Ok(KeyRow { kind, spelling })
     }
 
     // The forms of all keys, if each fits.
-    fn keys(&self) -> Result<[KeyRow; 32], Fault>
-        ensures { let m = B.meaning self.now.book.now in MatchResult result (KeysCopied m self.now.counts.keys) (KeysRefused m) }
+    fn keys(&self) -> Result<Short<KeyRow, 32>, Fault>
+        ensures { let m = B.meaning self.now.book.now in MatchResult result (λ s. (listed form_of blank_key s ≡ m.forms) × ((c : ℕ) → Key m.grammar c → FormFits (form_in m.forms c))) (KeysRefused m) }
     {
         filled(
             KeyRow::BLANK,
@@ -192,7 +188,8 @@ pub(super) fn table_of<B: Book>(book: &B) -> Result<Table, Fault>
     let rules = source.rules()?;
     let keys = source.keys()?;
     Ok(Table {
-        counts,
+        parts: counts.parts,
+        start: counts.start,
         rules,
         keys,
     })

@@ -1,6 +1,5 @@
-use Rattle.std.proofs.Common.{◌≡◌, length}
-use Rattle.soundbook.specs.Copies.{Filled}
+use Rattle.std.proofs.Common.{◌≡◌, ℕ, ◌<◌, Ok, length, slice_index_or}
 use Rattle.soundbook.proofs.copies.filled.Given as goal
 
 abbrev pub invariant-loop-place : goal.invariant-loop-place
-invariant-loop-place g l = (length l.items ≡ g.row.N) × Filled (λ i r. goal.F-post g l.item i r) l.fn.blank l.place l.items
+invariant-loop-place g l = (length l.items ≡ g.row.N) × ((i : ℕ) → i < l.place → goal.F-post g l.item i (Ok (slice_index_or l.items i l.fn.blank)))

@@ -1,6 +1,6 @@
 use Rattle.std.proofs.lemmas.Result.{err_from_is_err_and}
 use Rattle.soundbook.specs.Refusals.{CopyRefused}
-use Rattle.soundbook.proofs.Copying.{table_is, rules_fit, keys_fit}
+use Rattle.soundbook.proofs.Copying.{table_is}
 use Rattle.soundbook.proofs.copies.table_of.Goals as goal
 
 pub returns-in_err-counts : goal.returns-in_err-counts
@@ -18,13 +18,11 @@ pub returns-in_err-keys : goal.returns-in_err-keys
 returns-in_err-keys g c =
     let p = err_from_is_err_and c.from_residual-in_err-keys.result c.from_residual-in_err-keys.ensures.1 in
     let counts = c.in_ok-counts.ensures in
-    rw (p.1, p.2) (CopyRefused.keys counts.1 (rules_fit counts.0 c.in_ok-rules.ensures) c.in_err-keys.ensures)
+    rw (p.1, p.2) (CopyRefused.keys counts.1 c.in_ok-rules.ensures.1 c.in_err-keys.ensures)
 
 pub returns : goal.returns
 returns g c =
     let counts = c.in_ok-counts.ensures in
     let rules = c.in_ok-rules.ensures in
-    let keys = c.in_ok-keys.ensures in (
-      table_is _ (record { counts = c.in_ok-counts.counts; rules = c.in_ok-rules.rules; keys = c.in_ok-keys.keys }) counts.0 rules keys,
-      record { counts = counts.1; rules = rules_fit counts.0 rules; keys = keys_fit counts.0 keys },
-    )
+    let keys = c.in_ok-keys.ensures in
+    (table_is counts.0 c.in_ok-rules.rules c.in_ok-keys.keys rules.0 keys.0, record { counts = counts.1; rules = rules.1; keys = keys.1 })

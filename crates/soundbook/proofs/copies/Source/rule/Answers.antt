@@ -13,12 +13,12 @@ returns-then-size-eq0 g c = RuleRefused.empty (is_part c.is_part.ensures c.if-no
 pub returns-then-size-gt6 : goal.returns-then-size-gt6
 returns-then-size-gt6 g c = RuleRefused.long (is_part c.is_part.ensures c.if-not-is_part.false c.left-left.ensures) (omega (arith, c.size-size.ensures))
 
-pub returns-in_err-symbols : goal.returns-in_err-symbols
-returns-in_err-symbols g c =
+pub returns-in_err-body : goal.returns-in_err-body
+returns-in_err-body g c =
     let p = err_from_is_err_and c.from_residual.result c.from_residual.ensures.1 in
-    rw (p.1, p.2) (RuleRefused.symbol (is_part c.is_part.ensures c.if-not-is_part.false c.left-left.ensures) (omega (arith, c.size-size.ensures)) (omega (arith, c.size-size.ensures)) (symbols_refused _ _ c.in_err-symbols.ensures c.size-size.ensures (λ i x l r. search rules) (λ i f l r. search rules)))
+    rw (p.1, p.2) (RuleRefused.symbol (is_part c.is_part.ensures c.if-not-is_part.false c.left-left.ensures) (omega (arith, c.size-size.ensures)) (omega (arith, c.size-size.ensures)) (symbols_refused _ _ c.in_err-body.ensures c.size-size.ensures (λ i x l r. search rules) (λ i f l r. search rules)))
 
 pub returns : goal.returns
 returns g c =
-    rule_read _ _ (record { left = c.left-left.result; size = c.size-size.result; symbols = c.in_ok-symbols.symbols }) c.in_ok-symbols.ensures (λ i x l r. search rules)
+    rule_read _ _ (record { left = c.left-left.result; body = c.in_ok-body.body }) c.in_ok-body.ensures (λ i x l r. search rules)
     (is_part c.is_part.ensures c.if-not-is_part.false c.left-left.ensures) c.left-left.ensures c.size-size.ensures (omega arith) (omega arith)
