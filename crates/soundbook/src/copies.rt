@@ -29,30 +29,6 @@ fn filled<T: Copy, E, const N: usize, F: Fn(u16) -> Result<T, E>>(
     Ok(Short { len: count, items })
 }
 
-// The counts of a book, if they are in bounds.
-fn counts_of<B: Book>(book: &B) -> Result<Counts, Fault>
-    ensures { MatchResult result (λ c. Counted (B.meaning book.now) c × CountsFit (B.meaning book.now).grammar) (λ f. (f ≡ CountsFault) × (CountsFit (B.meaning book.now).grammar → ⊥)) }
-{
-    let parts = book.parts();
-    let keys = book.keys();
-    let start = book.start();
-    let rules = book.rules();
-    if (1..=32).contains(&parts)
-        && (1..=32).contains(&keys)
-        && (1..=parts).contains(&start)
-        && (1..=128).contains(&rules)
-    {
-        Ok(Counts {
-            parts,
-            keys,
-            start,
-            rules,
-        })
-    } else {
-        Err(Fault::Counts)
-    }
-}
-
 // A book of any make with its counts, which are in bounds.
 #[derive(Drop)]
 struct Source<'b, B: Book> {
@@ -60,6 +36,33 @@ struct Source<'b, B: Book> {
     counts: Counts,
     ghost counted: { Counted (B.meaning book.now) counts },
     ghost fit: { CountsFit (B.meaning book.now).grammar },
+}
+
+impl<'b, B: Book> Source<'b, B> {
+    // The book, if its counts are in bounds.
+    fn of(book: &'b B) -> Result<Source<'b, B>, Fault>
+        ensures { MatchResult result (λ s. s.book.now ≡ book.now) (λ f. (f ≡ CountsFault) × (CountsFit (B.meaning book.now).grammar → ⊥)) }
+    {
+        let parts = book.parts();
+        let keys = book.keys();
+        let start = book.start();
+        let rules = book.rules();
+        if (1..=32).contains(&parts)
+            && (1..=32).contains(&keys)
+            && (1..=parts).contains(&start)
+            && (1..=128).contains(&rules)
+        {
+            let counts = Counts {
+                parts,
+                keys,
+                start,
+                rules,
+            };
+            Ok(Source { book, counts })
+        } else {
+            Err(Fault::Counts)
+        }
+    }
 }
 
 impl<B: Book> Source<'_, B> {
@@ -183,13 +186,12 @@ fn length_fits(kind: KeyKind, len: u16) -> bool
 pub(super) fn table_of<B: Book>(book: &B) -> Result<Table, Fault>
     ensures { MatchResult result (λ t. (meaning_of t ≡ B.meaning book.now) × WellFormed (B.meaning book.now)) (λ f. CopyRefused (B.meaning book.now) f) }
 {
-    let counts = counts_of(book)?;
-    let source = Source { book, counts };
+    let source = Source::of(book)?;
     let rules = source.rules()?;
     let keys = source.keys()?;
     Ok(Table {
-        parts: counts.parts,
-        start: counts.start,
+        parts: source.counts.parts,
+        start: source.counts.start,
         rules,
         keys,
     })
