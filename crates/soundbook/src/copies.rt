@@ -97,7 +97,7 @@ impl<B: Book> Source<'_, B> {
     fn rule(&self, rule: u16) -> Result<RuleRow, Fault>
         ensures { let g = (B.meaning self.now.book.now).grammar in let w = rule_in g.rules rule in MatchResult result (λ row. (rule_of row ≡ w) × RuleFits g w) (RuleRefused g rule w) }
     {
-        let number = rule as usize;
+        let number = usize::from(rule);
         let left = self.book.left(rule);
         if !self.is_part(left) {
             return Err(Fault::LeftSide { rule: number });
@@ -142,7 +142,9 @@ impl<B: Book> Source<'_, B> {
     fn key(&self, key: u16) -> Result<KeyRow, Fault>
         ensures { let w = form_in (B.meaning self.now.book.now).forms key in MatchResult result (λ row. (form_of row ≡ w) × FormFits w) (λ f. (f ≡ KeyForm key) × (FormFits w → ⊥)) }
     {
-        let refusal = Fault::KeyForm { key: key as usize };
+        let refusal = Fault::KeyForm {
+            key: usize::from(key),
+        };
         let kind = KeyKind::try_from(self.book.kind(key)).map_err(|_| refusal)?;
         let len = self.book.spelling_len(key);
         if !length_fits(kind, len) {

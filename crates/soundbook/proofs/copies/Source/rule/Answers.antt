@@ -5,13 +5,13 @@ use Rattle.soundbook.proofs.Copying.{is_part, not_part, symbols_refused, rule_re
 use Rattle.soundbook.proofs.copies.Source.rule.Goals as goal
 
 pub returns-then-not-is_part : goal.returns-then-not-is_part
-returns-then-not-is_part g c = RuleRefused.left (not_part c.is_part.ensures c.if-not-is_part.true c.left-left.ensures)
+returns-then-not-is_part g c = rw c.from-number.ensures (RuleRefused.left (not_part c.is_part.ensures c.if-not-is_part.true c.left-left.ensures))
 
 pub returns-then-size-eq0 : goal.returns-then-size-eq0
-returns-then-size-eq0 g c = RuleRefused.empty (is_part c.is_part.ensures c.if-not-is_part.false c.left-left.ensures) (sym c.size-size.ensures ∙ c.if-size-eq0.true)
+returns-then-size-eq0 g c = rw c.from-number.ensures (RuleRefused.empty (is_part c.is_part.ensures c.if-not-is_part.false c.left-left.ensures) (sym c.size-size.ensures ∙ c.if-size-eq0.true))
 
 pub returns-then-size-gt6 : goal.returns-then-size-gt6
-returns-then-size-gt6 g c = RuleRefused.long (is_part c.is_part.ensures c.if-not-is_part.false c.left-left.ensures) (omega (arith, c.size-size.ensures))
+returns-then-size-gt6 g c = rw c.from-number.ensures (RuleRefused.long (is_part c.is_part.ensures c.if-not-is_part.false c.left-left.ensures) (omega (arith, c.size-size.ensures)))
 
 pub returns-in_err-body : goal.returns-in_err-body
 returns-in_err-body g c =
