@@ -11,7 +11,7 @@ use Rattle.language.specs.Book.{Rule, KeyForm, norule, noform, Grammar, Meaning,
 use Rattle.language.specs.Sound.{Sound, CountsFit, RuleFits, FormFits, named, figure, shortened, Letter, small, hyphen, Lettered}
 use Rattle.language.proofs.Told.{place_inside, rule_place, form_place}
 use Rattle.soundbook.specs.Tables.{meaning_of}
-use Rattle.soundbook.specs.declared.tables.Table.{Table}
+use Rattle.soundbook.specs.declared.tables.TableOf.{TableOf}
 use Rattle.booktext.specs.Columns.{shown, value}
 use Rattle.booktext.specs.Text.{middle_of, field_of, number_at, rule_at, form_at, text_meaning, spelled, spelling_field}
 use Rattle.booktext.specs.Written.{blank, boxed, line_of, head_line, symbol_field, rule_line, key_line, spread, rules_text, keys_text, text_of}
@@ -294,6 +294,6 @@ module _ (m : Meaning) where
     text_again each = meaning_same _ _ _ _ _ _ _ _ _ _ parts_is keys_is start_is rules_again (forms_again each)
 
 -- every key of a table has one form
-pub each_form : (t : Table) → length (meaning_of t).forms ≡ (meaning_of t).grammar.keys
+pub each_form : {R K : ℕ} (t : TableOf R K) → length (meaning_of t).forms ≡ (meaning_of t).grammar.keys
 unfolding meaning_of
-each_form t = length-map-range_with_len _ 0 t.counts.keys
+each_form t = length-map-range_with_len _ 0 t.keys.len

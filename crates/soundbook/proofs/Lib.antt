@@ -2,5 +2,6 @@ pub mod Copying
 pub mod Deriving
 pub mod Finding
 pub mod Growing
+pub mod Listing
 pub mod Refusing
 pub mod Smallest

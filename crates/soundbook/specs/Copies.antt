@@ -1,32 +1,23 @@
 -- What is copied of a book to fixed memory.
-use Rattle.std.specs.Prelude.{◌≡◌, ℕ, ◌+◌, ◌<◌, ◌≤◌, ◌⊎◌, List, slice_index, slice_index_or}
-use Rattle.language.specs.Book.{Grammar, Meaning, Rule, rule, form, Part, Key}
-use Rattle.language.specs.Sound.{RuleFits, Letter, FormFits}
-use Rattle.soundbook.specs.Rows.{rule_of, form_of, blank_rule, blank_key}
-use Rattle.soundbook.specs.declared.rows.RuleRow.{RuleRow}
-use Rattle.soundbook.specs.declared.rows.KeyRow.{KeyRow}
+use Rattle.std.specs.Prelude.{Result, Ok, Err, ◌≡◌, ℕ, ◌<◌, ◌≤◌, slice_index_or}
+use Rattle.rulebook.specs.declared.kinds.KeyKind.{KeyKind}
+use Rattle.rulebook.specs.declared.kinds.KeyKind.TheVariants.{Full, Figure, Shortened}
+use Rattle.soundbook.specs.declared.rows.Short.{Short}
 
--- the first n rows mean what is wanted there, and each of that fits
-pub record Copied {X Y : Type 0} (read : X → Y) (blank : X) (want : ℕ → Y) (Fits : Y → Type 0) (n : ℕ) (rows : List X) : Type 0 where
-  pub same : (i : ℕ) → i < n → read (slice_index_or rows i blank) ≡ want i
-  pub fits : (i : ℕ) → i < n → Fits (want i)
+-- n items, each made for its place
+pub record Made {X E : Type 0} {N : ℕ} (Makes : ℕ → Result X E → Type 0) (past : X) (n : ℕ) (s : Short X N) : Type 0 where
+  pub long : s.len ≡ n
+  pub each : (i : ℕ) → i < n → Makes i (Ok (slice_index_or s.items i past))
 
--- the first n symbols of the right side of w, each a part or a key
-abbrev pub SymbolsCopied : Grammar → Rule → ℕ → List ℕ → Type 0
-SymbolsCopied g w n = Copied (λ c. c) 0 (λ d. slice_index w.body d) (λ c. Part g c ⊎ Key g c) n
-
--- the first n bytes of a spelling, each a letter
-abbrev pub LettersCopied : List ℕ → ℕ → List ℕ → Type 0
-LettersCopied s n = Copied (λ b. b) 0 (λ i. slice_index s i) Letter n
-
--- the first n rules, each in form
-abbrev pub RulesCopied : Grammar → ℕ → List RuleRow → Type 0
-RulesCopied g n = Copied rule_of blank_rule (λ i. rule g.rules (i + 1)) (RuleFits g) n
-
--- the forms of the first n keys, each in form
-abbrev pub KeysCopied : Meaning → ℕ → List KeyRow → Type 0
-KeysCopied m n = Copied form_of blank_key (λ i. form m.forms (33 + i)) FormFits n
+-- of the first n places one is refused, and an item is made for each before it
+pub record FirstRefused {X E : Type 0} (Makes : ℕ → Result X E → Type 0) (n : ℕ) (e : E) : Type 0 where
+  pub at : ℕ
+  pub inside : at < n
+  pub before : (i : ℕ) → i < at → (x : X) × Makes i (Ok x)
+  pub refused : Makes at (Err e)
 
 -- a spelling of so many bytes goes with the kind
-abbrev pub LengthFits : ℕ → ℕ → Type 0
-LengthFits kind n = ((kind ≡ 0) × (1 ≤ n) × (n ≤ 24)) ⊎ (((kind ≡ 1) × (n ≡ 0)) ⊎ ((kind ≡ 2) × (3 ≤ n) × (n ≤ 24)))
+abbrev pub LengthFits : KeyKind → ℕ → Type 0
+LengthFits Full n = (1 ≤ n) × (n ≤ 24)
+LengthFits Figure n = n ≡ 0
+LengthFits Shortened n = (3 ≤ n) × (n ≤ 24)

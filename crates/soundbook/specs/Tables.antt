@@ -1,14 +1,16 @@
 -- What a table means.
-use Rattle.std.specs.Prelude.{◌≡◌, length, slice_index_or}
-use Rattle.language.specs.Book.{Meaning, told}
-use Rattle.soundbook.specs.Rows.{rule_of, form_of, blank_rule, blank_key}
+use Rattle.std.specs.Prelude.{◌≡◌, ℕ, length}
+use Rattle.language.specs.Book.{Meaning}
+use Rattle.soundbook.specs.Rows.{listed, rule_of, form_of, blank_rule, blank_key}
 use Rattle.soundbook.specs.declared.tables.Counts.{Counts}
-use Rattle.soundbook.specs.declared.tables.Table.{Table}
+use Rattle.soundbook.specs.declared.tables.TableOf.{TableOf}
 
--- as many rules and keys as the counts say; a rule past the rows is empty
-unfoldable pub meaning_of : Table → Meaning
-meaning_of t =
-    told t.counts.parts t.counts.keys t.counts.start t.counts.rules (λ i. rule_of (slice_index_or t.rules i blank_rule)) (λ i. form_of (slice_index_or t.keys i blank_key))
+-- as many rules and keys as the lengths say; a rule past the rows is empty
+unfoldable pub meaning_of : {R K : ℕ} → TableOf R K → Meaning
+meaning_of t = record {
+  grammar = record { parts = t.parts; keys = t.keys.len; start = t.start; rules = listed rule_of blank_rule t.rules };
+  forms = listed form_of blank_key t.keys;
+}
 
 -- these are the counts of the book
 pub record Counted (m : Meaning) (c : Counts) : Type 0 where

@@ -6,10 +6,10 @@ ghost use Rattle.soundbook.specs.Rows.{rule_of, form_of};
 ghost use Rattle.soundbook.specs.Sounds.{sound_meaning, smallest};
 
 use super::copies::table_of;
-use super::rows::{KeyRow, RuleRow};
+use super::rows::{KeyRow, RuleRow, Short};
 use super::sounds::SoundBook;
-use super::tables::{Counts, Table};
-use rulebook::{Book, Fault};
+use super::tables::Table;
+use rulebook::{Book, Fault, KeyKind};
 
 // The sound book that means the same as the book read, or the first question answered no.
 fn sound_book<B: Book>(book: &B) -> Result<SoundBook, Fault>
@@ -45,8 +45,10 @@ fn smallest_rule() -> RuleRow
 {
     RuleRow {
         left: 1,
-        size: 1,
-        symbols: [33, 0, 0, 0, 0, 0],
+        body: Short {
+            len: 1,
+            items: [33, 0, 0, 0, 0, 0],
+        },
     }
 }
 
@@ -55,9 +57,11 @@ fn smallest_key() -> KeyRow
     ensures { form_of result ≡ record { kind = 0; spelling = codes "a" } }
 {
     KeyRow {
-        kind: 0,
-        len: 1,
-        bytes: *b"a\0\0\0\0\0\0\0\0\0\0\0\0\0\0\0\0\0\0\0\0\0\0\0",
+        kind: KeyKind::Full,
+        spelling: Short {
+            len: 1,
+            items: *b"a\0\0\0\0\0\0\0\0\0\0\0\0\0\0\0\0\0\0\0\0\0\0\0",
+        },
     }
 }
 
@@ -65,21 +69,22 @@ fn smallest_key() -> KeyRow
 pub fn smallest_book() -> SoundBook
     ensures { sound_meaning result ≡ smallest }
 {
-    let counts = Counts {
-        parts: 1,
-        keys: 1,
-        start: 1,
-        rules: 1,
-    };
     let mut rules = [RuleRow::BLANK; 128];
     rules[0] = smallest_rule();
     let mut keys = [KeyRow::BLANK; 32];
     keys[0] = smallest_key();
     SoundBook {
         table: Table {
-            counts,
-            rules,
-            keys,
+            parts: 1,
+            start: 1,
+            rules: Short {
+                len: 1,
+                items: rules,
+            },
+            keys: Short {
+                len: 1,
+                items: keys,
+            },
         },
     }
 }

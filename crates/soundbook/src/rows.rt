@@ -1,84 +1,69 @@
-// Rows of fixed memory: a rule of at most six symbols, and the form of a key.
-ghost use Rattle.std.specs.Prelude.{◌≡◌, length, slice_index};
-ghost use Rattle.language.specs.Book.{rule as rule_in, form as form_in};
-ghost use Rattle.soundbook.specs.Rows.{rule_of, form_of, rules_in, forms_in};
+// Rows of fixed memory: lists of a few items, a rule, and the form of a key.
+ghost use Rattle.std.specs.Prelude.{◌≡◌, ◌-◌, cond, nat_le, slice_index_or};
+ghost use Rattle.soundbook.specs.Rows.{items_of};
 
-use rulebook::{item_or, place_of};
+use rulebook::{KeyKind, item_or};
 
-// A rule; its symbols past the sixth are 0.
+// At most N items in fixed memory: the first ones, as many as the length.
+#[derive(Clone, Copy)]
+pub struct Short<T, const N: usize> {
+    pub len: u16,
+    pub items: [T; N],
+}
+
+impl<T: Copy, const N: usize> Short<T, N> {
+    // The item at a place, counted from 0, or what stands in for one past the end.
+    pub(super) fn item(&self, place: u16, past: T) -> T
+        ensures { result ≡ slice_index_or (items_of past self.now) place past }
+    {
+        if place < self.len {
+            item_or(&self.items, place, past)
+        } else {
+            past
+        }
+    }
+
+    // The item of a number, where the first item has the number first.
+    pub(super) fn numbered(&self, number: u16, first: u16, past: T) -> T
+        ensures { result ≡ cond (nat_le first number) (slice_index_or (items_of past self.now) (number - first) past) past }
+    {
+        match number.checked_sub(first) {
+            Some(place) => self.item(place, past),
+            None => past,
+        }
+    }
+}
+
+// A rule of at most six symbols.
 #[derive(Clone, Copy)]
 pub struct RuleRow {
     pub left: u16,
-    pub size: u16,
-    pub symbols: [u16; 6],
+    pub body: Short<u16, 6>,
 }
 
 impl RuleRow {
     pub const BLANK: RuleRow = RuleRow {
         left: 0,
-        size: 0,
-        symbols: [0; 6],
+        body: Short {
+            len: 0,
+            items: [0; 6],
+        },
     };
-
-    // The symbol at a place, counted from 0, or 0 past the right side.
-    pub(super) fn symbol(&self, at: u16) -> u16
-        ensures { result ≡ slice_index (rule_of self.now).body at }
-    {
-        if at < self.size {
-            item_or(&self.symbols, at, 0)
-        } else {
-            0
-        }
-    }
 }
 
-// The form of a key; its bytes past the twenty-fourth are 0.
+// The form of a key, spelled by at most twenty-four bytes.
 #[derive(Clone, Copy)]
 pub struct KeyRow {
-    pub kind: u16,
-    pub len: u16,
-    pub bytes: [u8; 24],
+    pub kind: KeyKind,
+    pub spelling: Short<u8, 24>,
 }
 
 impl KeyRow {
     pub const BLANK: KeyRow = KeyRow {
-        kind: 0,
-        len: 0,
-        bytes: [0; 24],
+        kind: KeyKind::Full,
+        spelling: Short {
+            len: 0,
+            items: [0; 24],
+        },
     };
-
-    // The byte at a place of the spelling, counted from 0, or 0 past it.
-    pub(super) fn byte(&self, at: u16) -> u8
-        ensures { result ≡ slice_index (form_of self.now).spelling at }
-    {
-        if at < self.len {
-            item_or(&self.bytes, at, 0)
-        } else {
-            0
-        }
-    }
-}
-
-// The row of a rule among the first count rows, or the blank row.
-pub(super) fn rule_row(rows: &[RuleRow], count: u16, rule: u16) -> RuleRow
-    ensures left { result.left ≡ (rule_in (rules_in rows.now count) rule).head }
-    ensures size { result.size ≡ length (rule_in (rules_in rows.now count) rule).body }
-    ensures body { (rule_of result).body ≡ (rule_in (rules_in rows.now count) rule).body }
-{
-    let Some(place) = place_of(rule, 1, count) else {
-        return RuleRow::BLANK;
-    };
-    item_or(rows, place, RuleRow::BLANK)
-}
-
-// The row of a key among the first count rows, or the blank row.
-pub(super) fn key_row(rows: &[KeyRow], count: u16, key: u16) -> KeyRow
-    ensures kind { result.kind ≡ (form_in (forms_in rows.now count) key).kind }
-    ensures len { result.len ≡ length (form_in (forms_in rows.now count) key).spelling }
-    ensures spelling { (form_of result).spelling ≡ (form_in (forms_in rows.now count) key).spelling }
-{
-    let Some(place) = place_of(key, 33, count) else {
-        return KeyRow::BLANK;
-    };
-    item_or(rows, place, KeyRow::BLANK)
 }

@@ -1,7 +1,10 @@
 // A book held in fixed memory.
+ghost use Rattle.std.specs.Prelude.{◌≡◌};
+ghost use Rattle.language.specs.Book.{rule as rule_in, form as form_in};
+ghost use Rattle.soundbook.specs.Rows.{rule_of, form_of};
 ghost use Rattle.soundbook.specs.Tables.{meaning_of};
 
-use super::rows::{KeyRow, RuleRow, key_row, rule_row};
+use super::rows::{KeyRow, RuleRow, Short};
 use rulebook::Book;
 
 // How many parts, keys and rules there are, and which part is the start.
@@ -13,54 +16,74 @@ pub struct Counts {
     pub rules: u16,
 }
 
-// A book of at most 128 rules and 32 keys.
+// A book of at most R rules and K keys.
 #[derive(Clone, Copy)]
-pub struct Table {
-    pub counts: Counts,
-    pub rules: [RuleRow; 128],
-    pub keys: [KeyRow; 32],
+pub struct TableOf<const R: usize, const K: usize> {
+    pub parts: u16,
+    pub start: u16,
+    pub rules: Short<RuleRow, R>,
+    pub keys: Short<KeyRow, K>,
 }
 
-impl Book for Table {
+// A book of at most 128 rules and 32 keys.
+pub type Table = TableOf<128, 32>;
+
+impl<const R: usize, const K: usize> TableOf<R, K> {
+    // A rule, or the blank row.
+    fn rule(&self, rule: u16) -> RuleRow
+        ensures { rule_of result ≡ rule_in (meaning_of self.now).grammar.rules rule }
+    {
+        self.rules.numbered(rule, 1, RuleRow::BLANK)
+    }
+
+    // The form of a key, or the blank row.
+    fn key(&self, key: u16) -> KeyRow
+        ensures { form_of result ≡ form_in (meaning_of self.now).forms key }
+    {
+        self.keys.numbered(key, 33, KeyRow::BLANK)
+    }
+}
+
+impl<const R: usize, const K: usize> Book for TableOf<R, K> {
     ghost meaning = { meaning_of };
 
     fn parts(&self) -> u16 {
-        self.counts.parts
+        self.parts
     }
 
     fn keys(&self) -> u16 {
-        self.counts.keys
+        self.keys.len
     }
 
     fn start(&self) -> u16 {
-        self.counts.start
+        self.start
     }
 
     fn rules(&self) -> u16 {
-        self.counts.rules
+        self.rules.len
     }
 
     fn left(&self, rule: u16) -> u16 {
-        rule_row(&self.rules, self.counts.rules, rule).left
+        self.rule(rule).left
     }
 
     fn size(&self, rule: u16) -> u16 {
-        rule_row(&self.rules, self.counts.rules, rule).size
+        self.rule(rule).body.len
     }
 
     fn symbol(&self, rule: u16, at: u16) -> u16 {
-        rule_row(&self.rules, self.counts.rules, rule).symbol(at)
+        self.rule(rule).body.item(at, 0)
     }
 
     fn kind(&self, key: u16) -> u16 {
-        key_row(&self.keys, self.counts.keys, key).kind
+        u16::from(self.key(key).kind)
     }
 
     fn spelling_len(&self, key: u16) -> u16 {
-        key_row(&self.keys, self.counts.keys, key).len
+        self.key(key).spelling.len
     }
 
     fn spelling_byte(&self, key: u16, at: u16) -> u8 {
-        key_row(&self.keys, self.counts.keys, key).byte(at)
+        self.key(key).spelling.item(at, 0)
     }
 }

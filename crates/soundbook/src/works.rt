@@ -1,108 +1,143 @@
 // The works book: the book that the unit carries as a constant table.
 ghost use Rattle.soundbook.specs.Works.{works};
 
-use super::rows::{KeyRow, RuleRow, key_row, rule_row};
-use rulebook::Book;
+use super::rows::{KeyRow, RuleRow, Short};
+use super::tables::TableOf;
+use rulebook::{Book, KeyKind};
 
 const RULES: [RuleRow; 5] = [
     RuleRow {
         left: 1,
-        size: 1,
-        symbols: [2, 0, 0, 0, 0, 0],
+        body: Short {
+            len: 1,
+            items: [2, 0, 0, 0, 0, 0],
+        },
     },
     RuleRow {
         left: 1,
-        size: 2,
-        symbols: [1, 2, 0, 0, 0, 0],
+        body: Short {
+            len: 2,
+            items: [1, 2, 0, 0, 0, 0],
+        },
     },
     RuleRow {
         left: 2,
-        size: 2,
-        symbols: [33, 35, 0, 0, 0, 0],
+        body: Short {
+            len: 2,
+            items: [33, 35, 0, 0, 0, 0],
+        },
     },
     RuleRow {
         left: 2,
-        size: 2,
-        symbols: [34, 35, 0, 0, 0, 0],
+        body: Short {
+            len: 2,
+            items: [34, 35, 0, 0, 0, 0],
+        },
     },
     RuleRow {
         left: 2,
-        size: 4,
-        symbols: [36, 35, 1, 37, 0, 0],
+        body: Short {
+            len: 4,
+            items: [36, 35, 1, 37, 0, 0],
+        },
     },
 ];
 
 const KEYS: [KeyRow; 5] = [
     KeyRow {
-        kind: 0,
-        len: 5,
-        bytes: *b"press\0\0\0\0\0\0\0\0\0\0\0\0\0\0\0\0\0\0\0",
+        kind: KeyKind::Full,
+        spelling: Short {
+            len: 5,
+            items: *b"press\0\0\0\0\0\0\0\0\0\0\0\0\0\0\0\0\0\0\0",
+        },
     },
     KeyRow {
-        kind: 0,
-        len: 4,
-        bytes: *b"hold\0\0\0\0\0\0\0\0\0\0\0\0\0\0\0\0\0\0\0\0",
+        kind: KeyKind::Full,
+        spelling: Short {
+            len: 4,
+            items: *b"hold\0\0\0\0\0\0\0\0\0\0\0\0\0\0\0\0\0\0\0\0",
+        },
     },
     KeyRow {
-        kind: 1,
-        len: 0,
-        bytes: [0; 24],
+        kind: KeyKind::Figure,
+        spelling: Short {
+            len: 0,
+            items: [0; 24],
+        },
     },
     KeyRow {
-        kind: 0,
-        len: 6,
-        bytes: *b"repeat\0\0\0\0\0\0\0\0\0\0\0\0\0\0\0\0\0\0",
+        kind: KeyKind::Full,
+        spelling: Short {
+            len: 6,
+            items: *b"repeat\0\0\0\0\0\0\0\0\0\0\0\0\0\0\0\0\0\0",
+        },
     },
     KeyRow {
-        kind: 0,
-        len: 3,
-        bytes: *b"end\0\0\0\0\0\0\0\0\0\0\0\0\0\0\0\0\0\0\0\0\0",
+        kind: KeyKind::Full,
+        spelling: Short {
+            len: 3,
+            items: *b"end\0\0\0\0\0\0\0\0\0\0\0\0\0\0\0\0\0\0\0\0\0",
+        },
     },
 ];
+
+const WORKS: TableOf<5, 5> = TableOf {
+    parts: 2,
+    start: 1,
+    rules: Short {
+        len: 5,
+        items: RULES,
+    },
+    keys: Short {
+        len: 5,
+        items: KEYS,
+    },
+};
 
 #[derive(Clone, Copy)]
 pub struct WorksBook;
 
+#[tactic(auto, unfolding(crate::specs::Tables::meaning_of))]
 impl Book for WorksBook {
     ghost meaning = { λ _. works };
 
     fn parts(&self) -> u16 {
-        2
+        WORKS.parts()
     }
 
     fn keys(&self) -> u16 {
-        5
+        WORKS.keys()
     }
 
     fn start(&self) -> u16 {
-        1
+        WORKS.start()
     }
 
     fn rules(&self) -> u16 {
-        5
+        WORKS.rules()
     }
 
     fn left(&self, rule: u16) -> u16 {
-        rule_row(&RULES, 5, rule).left
+        WORKS.left(rule)
     }
 
     fn size(&self, rule: u16) -> u16 {
-        rule_row(&RULES, 5, rule).size
+        WORKS.size(rule)
     }
 
     fn symbol(&self, rule: u16, at: u16) -> u16 {
-        rule_row(&RULES, 5, rule).symbol(at)
+        WORKS.symbol(rule, at)
     }
 
     fn kind(&self, key: u16) -> u16 {
-        key_row(&KEYS, 5, key).kind
+        WORKS.kind(key)
     }
 
     fn spelling_len(&self, key: u16) -> u16 {
-        key_row(&KEYS, 5, key).len
+        WORKS.spelling_len(key)
     }
 
     fn spelling_byte(&self, key: u16, at: u16) -> u8 {
-        key_row(&KEYS, 5, key).byte(at)
+        WORKS.spelling_byte(key, at)
     }
 }

@@ -1,6 +1,0 @@
-use Rattle.soundbook.specs.Tables.{meaning_of}
-use Rattle.soundbook.proofs.tables.TableBook.left.Goals as goal
-
-pub returns : goal.returns
-unfolding meaning_of
-returns c = c.rule_row.ensures.left

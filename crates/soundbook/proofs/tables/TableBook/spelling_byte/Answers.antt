@@ -1,7 +1,0 @@
-use Rattle.std.proofs.Common.{get_or, ap, ◌∙◌}
-use Rattle.soundbook.specs.Tables.{meaning_of}
-use Rattle.soundbook.proofs.tables.TableBook.spelling_byte.Goals as goal
-
-pub returns : goal.returns
-unfolding meaning_of
-returns c = c.byte.ensures ∙ ap (λ l. get_or l c.args.at 0) c.key_row.ensures.spelling

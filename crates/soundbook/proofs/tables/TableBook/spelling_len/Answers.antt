@@ -1,6 +1,0 @@
-use Rattle.soundbook.specs.Tables.{meaning_of}
-use Rattle.soundbook.proofs.tables.TableBook.spelling_len.Goals as goal
-
-pub returns : goal.returns
-unfolding meaning_of
-returns c = c.key_row.ensures.len
