@@ -26,8 +26,9 @@ fn sound_book<B: Book>(book: &B) -> Result<SoundBook, Fault>
             part: usize::from(part),
         });
     }
-    let table = formed.table;
-    Ok(SoundBook { table })
+    Ok(SoundBook {
+        table: formed.table,
+    })
 }
 
 // Fills the place with a sound book that means the same as the book read; a refused check leaves the place.

@@ -50,6 +50,7 @@ fn round<G: Growth>(growth: &G, set: &SymbolSet) -> SymbolSet
     ensures grown { Grown (G.derived growth.now) set.now result }
     ensures closed { (i : ℕ) → Numbered (G.grammar growth.now) i → Closed (G.fires growth.now i) (G.added growth.now i) set.now result }
 {
+    // Each step starts from the set that the last one left, and asks that its number is a rule's.
     let mut next = *set;
     for rule in 1..=growth.count() {
         next = step(growth, rule, &next);
@@ -62,6 +63,7 @@ pub(super) fn closure<G: Growth>(growth: &G, first: SymbolSet) -> SymbolSet
     ensures grown { Grown (G.derived growth.now) first result }
     ensures closed { (i : ℕ) → Numbered (G.grammar growth.now) i → Closed (G.fires growth.now i) (G.added growth.now i) result result }
 {
+    // Until a round adds nothing: how many rounds that takes is not known before.
     let mut set = first;
     loop {
         let next = round(growth, &set);

@@ -12,6 +12,7 @@ pub struct SoundBook {
     ghost sound: { ∥ Sound (meaning_of table) ∥₁ },
 }
 
+// Each question is the table's; nothing forwards a trait by itself.
 impl Book for SoundBook {
     ghost meaning = { λ s. meaning_of s.table };
 

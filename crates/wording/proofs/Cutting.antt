@@ -1,5 +1,6 @@
 -- The words of a text, found one after another.
-use Rattle.std.proofs.Common.{◌≡◌, ℕ, ◌-◌, ◌<◌, ◌≤◌, ◌⊎◌, Bool, true, false, not, List, [], ◌∷◌, ◌++◌, length, get_or, drop, sym, refl, ap, ◌∙◌, subst, inl, inr, ⊎_elim, arith, Bor}
+use Rattle.std.proofs.Common.{◌≡◌, ℕ, ◌-◌, ◌<◌, ◌≤◌, ◌⊎◌, Bool, true, false, not, List, [], ◌∷◌, ◌++◌, length, get_or, drop, sym, refl, ap, ◌∙◌, subst, inl, inr, ⊎_elim, arith, Bor, Option, Some, None, MatchOption}
+use Rattle.std.specs.Option.{unwrap_or}
 use Rattle.std.proofs.lemmas.List.{length-take, length-drop, length_push, get_or_append_left, get_or_push}
 use Rattle.std.proofs.lemmas.Bool.{both_ways, cases_lt}
 use Rattle.rulebook.specs.declared.faults.Fault.{Fault}
@@ -14,6 +15,12 @@ use Rattle.wording.specs.declared.pieces.Placed.{Placed}
 pub shown_some : (s : List ℕ) (p : Piece) → Shows s p → ((b : Bor (List ℕ)) × (p ≡ Name b)) ⊎ ((b : Bor (List ℕ)) × (v : ℕ) × (p ≡ Figure b v)) → 1 ≤ length s
 shown_some s p h (inl (b, e)) = (subst (Shows s) e h).1.low
 shown_some s p h (inr (b, v, e)) = (subst (Shows s) e h).1.some
+
+-- up to the first byte of which a test says yes
+pub run_found : {Says : ℕ → Bool → Type 0} (t : List ℕ) (from past : ℕ) (r : Option ℕ) → past ≡ unwrap_or r (length t) → from ≤ length t
+    → MatchOption r ((k : ℕ) → from ≤ k → k < length t → Says (get_or t k 0) false) (λ i. (from ≤ i) × (i < length t) × Says (get_or t i 0) true × ((k : ℕ) → from ≤ k → k < i → Says (get_or t k 0) false)) → RunTo Says t from past
+run_found {Says} t from past None e fits none = subst (RunTo Says t from) (sym e) (record { low = fits; high = omega arith; bytes = none; stops = λ h. absurd (omega arith) })
+run_found {Says} t from past (Some i) e fits found = subst (RunTo Says t from) (sym e) (record { low = found.0; high = omega (arith, found.1); bytes = found.3; stops = λ h. found.2 })
 
 -- the bytes up to the first that does not separate, then those up to the first that does
 pub next_found : {P Q : ℕ → Bool → Type 0} (t : List ℕ) (at from past : ℕ) → (0 < at → at < length t → separates (get_or t at 0) ≡ true) → RunTo P t at from → RunTo Q t from past

@@ -1,6 +1,5 @@
 mod Collected
 mod Cutting
 mod Decided
-mod Reading
 mod Spelling
 pub mod Zipped

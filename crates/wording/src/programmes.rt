@@ -23,6 +23,7 @@ fn cut_words(heap: Global, text: &[u8]) -> Result<Programme<'_>, AllocError>
     requires { length text.now ≤ 4096 }
     ensures { IfOk result (λ p. CutAs text.now p.words.items p.fault) }
 {
+    // A loop with two ends, the text's and a refusal, and both are told.
     let mut words = Vec::new(heap);
     let mut cutter = Cutter::new(text);
     loop {

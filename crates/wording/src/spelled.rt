@@ -10,7 +10,7 @@ use super::words::Word;
 use rulebook::{Book, KeyKind, UnknownKind, place_of};
 use soundbook::SoundBook;
 
-// The fewest bytes to which a key of kind 2 may be shortened.
+// The fewest bytes to which a key may be shortened.
 const SHORTEST: usize = 3;
 
 // A piece of programme text with its place, and the book by whose spellings it is matched.
