@@ -59,6 +59,10 @@ module _ (f : ℕ → List ℕ) (each : (i : ℕ) → length (f i) ≡ 34) where
       ∙ (put_put xs (flat_map f (range_with_len a k)) (f j) b c (omega (arith, lines_length a k)) l
       ∙ ap (put xs b) (sym (lines_more a k j e_j) ∙ ap (λ i. flat_map f (range_with_len a i)) (sym e_n)))))
 
+-- the same lines by another count and place
+pub filled_all : (f : ℕ → List ℕ) (xs is : List ℕ) (b c a k n : ℕ) → is ≡ put xs b (flat_map f (range_with_len a k)) → b ≡ c → k ≡ n → is ≡ put xs c (flat_map f (range_with_len a n))
+filled_all f xs is b c a k n e same all = e ∙ (ap (λ m. put xs m (flat_map f (range_with_len a k))) same ∙ ap (λ m. put xs c (flat_map f (range_with_len a m))) all)
+
 pub rules_length : (m : Meaning) → length (rules_text m) ≡ 34 * length m.grammar.rules
 unfolding rules_text
 rules_length m = lines_length (rule_line m.grammar) (rule_length m.grammar) 1 (length m.grammar.rules)

@@ -1,11 +1,8 @@
 -- Fields laid into lines, and lines laid into a space.
 use Rattle.std.proofs.Common.{◌≡◌, ℕ, zero, suc, ◌+◌, ◌-◌, ◌*◌, ◌^◌, ◌<◌, ◌≤◌, min, cond, ltb, List, [], ◌∷◌, ◌++◌, map, length, get_or, take, drop, set, replicate, Decides, Ok, Err, OnOk, OnErr, Result, is_ok, sym, refl, ap, ◌∙◌, ⊎_elim, arith}
-use borrow.Rule.Slice.PartMut.{put_mid}
 use Rattle.std.specs.List.{range_with_len, flat_map}
 use Rattle.std.proofs.lemmas.List.FromFn.{fill_by_all, length-map-range_with_len}
-use Rattle.std.proofs.lemmas.List.Edits.{paste_all}
 use Rattle.std.proofs.lemmas.List.{append-nil, append_assoc, length-append, length-take, drop_at, drop-drop, set_at, take_more}
-use Rattle.std.proofs.lemmas.Slice.{put_mid-paste}
 use Rattle.std.proofs.lemmas.Bool.{false≢true, cases_lt, cond-true, cond-false, cond_both, lt-ltb, le-ltb}
 use Rattle.std.proofs.lemmas.Bool.Decides.{nat_tests}
 use Rattle.language.specs.Book.{Grammar, KeyForm, Meaning, left, size, symbol, kind, spelling}
@@ -13,10 +10,6 @@ use Rattle.language.proofs.Told.{place_inside}
 use Rattle.booktext.specs.Columns.{shown}
 use Rattle.booktext.specs.Written.{put, blank, boxed, line_of, head_line, symbol_field, rule_line, key_line, spread}
 use Rattle.booktext.proofs.Spelled.{take_min}
-
--- what a copy into a part leaves
-pub put_middle : (a k : ℕ) (xs ys zs : List ℕ) → ys ≡ zs → length zs ≡ k → put_mid a k xs ys ≡ put xs a zs
-put_middle a k xs ys zs e h = put_mid-paste a k xs ys zs (length zs) e h refl ∙ paste_all xs a zs (length zs) refl
 
 -- past the front f
 pub put_later : (f xs : List ℕ) (a k : ℕ) (ys : List ℕ) → k ≡ length f + a → put (f ++ xs) k ys ≡ f ++ put xs a ys
