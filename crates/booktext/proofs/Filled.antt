@@ -1,15 +1,10 @@
 -- A space that is filled with the lines of a book.
-use Rattle.std.proofs.Common.{◌≡◌, ℕ, zero, suc, ◌+◌, ◌-◌, ◌*◌, ◌≤◌, List, [], ◌∷◌, ◌++◌, length, take, drop, replicate, sym, refl, ap, ◌∙◌, arith}
+use Rattle.std.proofs.Common.{◌≡◌, ℕ, zero, suc, ◌+◌, ◌-◌, ◌*◌, ◌≤◌, List, [], ◌∷◌, ◌++◌, length, take, replicate, sym, refl, ap, ◌∙◌, arith}
 use Rattle.std.specs.List.{range_with_len, flat_map}
-use Rattle.std.proofs.lemmas.List.{append-nil, append_assoc, length-append, length-take, length-replicate, take-append-drop}
+use Rattle.std.proofs.lemmas.List.{append-nil, append_assoc, length-append, length-take, length-replicate}
 use Rattle.language.specs.Book.{Grammar, KeyForm, Meaning, size, kind, spelling}
 use Rattle.booktext.specs.Written.{put, blank, boxed, line_of, head_line, rule_line, key_line, spread, rules_text, keys_text, lines_in, text_of}
 use Rattle.booktext.proofs.Laid.{Fours, put_put, boxed_length, rule_to, rule_four}
-
-pub put_none : (xs : List ℕ) (a : ℕ) → xs ≡ put xs a []
-put_none xs a =
-    let same : a ≡ a + 0 = omega arith in
-    sym (take-append-drop a xs) ∙ ap (λ n. take a xs ++ drop n xs) same
 
 -- every line has 34 bytes
 pub flat_length : (fs : List (List ℕ)) → Fours fs → length (flat_map (λ f. f) fs) ≡ 4 * length fs

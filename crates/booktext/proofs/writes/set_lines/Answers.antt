@@ -1,11 +1,6 @@
 use Rattle.std.proofs.Common.{◌+◌, ◌-◌, ◌*◌, refl, arith}
-use Rattle.booktext.proofs.Filled.{put_none, filled_more, filled_all}
+use Rattle.booktext.proofs.Filled.{filled_more, filled_all}
 use Rattle.booktext.proofs.writes.set_lines.Goals as goal
-
-pub loop-number-init : goal.loop-number-init
-loop-number-init g c = λ f makes.
-    let first = c.args.numbers.start in
-    filled_all f c.args.space.now c.args.space.now (34 * c.args.top) (34 * c.args.top) first 0 (first - first) (put_none c.args.space.now (34 * c.args.top)) refl (omega arith)
 
 pub loop-number-preserved : goal.loop-number-preserved
 loop-number-preserved g c = λ f makes.

@@ -6,12 +6,6 @@ use Rattle.booktext.proofs.Filled.{filled_all, rule_length, key_length}
 use Rattle.booktext.proofs.Formed.{stands}
 use Rattle.booktext.proofs.writes.write.Goals as goal
 
-pub overflow_add-rules : goal.overflow_add-rules
-overflow_add-rules c = omega (arith, c.rules.ensures, (fitting (sound_meaning c.args.book.now) c.args.book.now.sound).rules)
-
-pub overflow_add-keys : goal.overflow_add-keys
-overflow_add-keys c = omega (arith, c.keys.ensures.count, (fitting (sound_meaning c.args.book.now) c.args.book.now.sound).keys)
-
 pub returns : goal.returns
 unfolding rules_text keys_text
 returns c =
