@@ -1,15 +1,10 @@
 -- A space that is filled with the lines of a book.
-use Rattle.std.proofs.Common.{◌≡◌, ℕ, zero, suc, ◌+◌, ◌-◌, ◌*◌, ◌≤◌, List, [], ◌∷◌, ◌++◌, length, take, drop, replicate, sym, refl, ap, ◌∙◌, arith}
+use Rattle.std.proofs.Common.{◌≡◌, ℕ, zero, suc, ◌+◌, ◌-◌, ◌*◌, ◌≤◌, List, [], ◌∷◌, ◌++◌, length, take, replicate, sym, refl, ap, ◌∙◌, arith}
 use Rattle.std.specs.List.{range_with_len, flat_map}
-use Rattle.std.proofs.lemmas.List.{append-nil, append_assoc, length-append, length-take, length-replicate, take-append-drop}
+use Rattle.std.proofs.lemmas.List.{append-nil, append_assoc, length-append, length-take, length-replicate}
 use Rattle.language.specs.Book.{Grammar, KeyForm, Meaning, size, kind, spelling}
 use Rattle.booktext.specs.Written.{put, blank, boxed, line_of, head_line, rule_line, key_line, spread, rules_text, keys_text, lines_in, text_of}
 use Rattle.booktext.proofs.Laid.{Fours, put_put, boxed_length, rule_to, rule_four}
-
-pub put_none : (xs : List ℕ) (a : ℕ) → xs ≡ put xs a []
-put_none xs a =
-    let same : a ≡ a + 0 = omega arith in
-    sym (take-append-drop a xs) ∙ ap (λ n. take a xs ++ drop n xs) same
 
 -- every line has 34 bytes
 pub flat_length : (fs : List (List ℕ)) → Fours fs → length (flat_map (λ f. f) fs) ≡ 4 * length fs
@@ -58,6 +53,10 @@ module _ (f : ℕ → List ℕ) (each : (i : ℕ) → length (f i) ≡ 34) where
       ∙ (ap (put (put xs b (flat_map f (range_with_len a k))) c) same
       ∙ (put_put xs (flat_map f (range_with_len a k)) (f j) b c (omega (arith, lines_length a k)) l
       ∙ ap (put xs b) (sym (lines_more a k j e_j) ∙ ap (λ i. flat_map f (range_with_len a i)) (sym e_n)))))
+
+-- the same lines by another count and place
+pub filled_all : (f : ℕ → List ℕ) (xs is : List ℕ) (b c a k n : ℕ) → is ≡ put xs b (flat_map f (range_with_len a k)) → b ≡ c → k ≡ n → is ≡ put xs c (flat_map f (range_with_len a n))
+filled_all f xs is b c a k n e same all = e ∙ (ap (λ m. put xs m (flat_map f (range_with_len a k))) same ∙ ap (λ m. put xs c (flat_map f (range_with_len a m))) all)
 
 pub rules_length : (m : Meaning) → length (rules_text m) ≡ 34 * length m.grammar.rules
 unfolding rules_text

@@ -1,22 +1,13 @@
 -- Fields laid into lines, and lines laid into a space.
-use Rattle.std.proofs.Common.{◌≡◌, ℕ, zero, suc, ◌+◌, ◌-◌, ◌*◌, ◌^◌, ◌<◌, ◌≤◌, min, cond, ltb, List, [], ◌∷◌, ◌++◌, map, length, get_or, take, drop, set, replicate, Decides, Ok, Err, OnOk, OnErr, Result, is_ok, sym, refl, ap, ◌∙◌, ⊎_elim, arith}
-use borrow.Rule.Slice.PartMut.{put_mid}
+use Rattle.std.proofs.Common.{◌≡◌, ℕ, zero, suc, ◌+◌, ◌-◌, ◌*◌, ◌^◌, ◌<◌, ◌≤◌, min, ltb, List, [], ◌∷◌, ◌++◌, map, length, get_or, take, drop, set, replicate, Decides, Ok, Err, OnOk, OnErr, Result, is_ok, sym, refl, ap, ◌∙◌, ⊎_elim, arith}
 use Rattle.std.specs.List.{range_with_len, flat_map}
-use Rattle.std.proofs.lemmas.List.FromFn.{fill_by_all, length-map-range_with_len}
-use Rattle.std.proofs.lemmas.List.Edits.{paste_all}
+use Rattle.std.proofs.lemmas.List.FromFn.{length-map-range_with_len}
 use Rattle.std.proofs.lemmas.List.{append-nil, append_assoc, length-append, length-take, drop_at, drop-drop, set_at, take_more}
-use Rattle.std.proofs.lemmas.Slice.{put_mid-paste}
 use Rattle.std.proofs.lemmas.Bool.{false≢true, cases_lt, cond-true, cond-false, cond_both, lt-ltb, le-ltb}
-use Rattle.std.proofs.lemmas.Bool.Decides.{nat_tests}
 use Rattle.language.specs.Book.{Grammar, KeyForm, Meaning, left, size, symbol, kind, spelling}
-use Rattle.language.proofs.Told.{place_inside}
 use Rattle.booktext.specs.Columns.{shown}
-use Rattle.booktext.specs.Written.{put, blank, boxed, line_of, head_line, symbol_field, rule_line, key_line, spread}
+use Rattle.booktext.specs.Written.{put, blank, boxed, line_of, head_line, symbol_field, key_line, spread}
 use Rattle.booktext.proofs.Spelled.{take_min}
-
--- what a copy into a part leaves
-pub put_middle : (a k : ℕ) (xs ys zs : List ℕ) → ys ≡ zs → length zs ≡ k → put_mid a k xs ys ≡ put xs a zs
-put_middle a k xs ys zs e h = put_mid-paste a k xs ys zs (length zs) e h refl ∙ paste_all xs a zs (length zs) refl
 
 -- past the front f
 pub put_later : (f xs : List ℕ) (a k : ℕ) (ys : List ℕ) → k ≡ length f + a → put (f ++ xs) k ys ≡ f ++ put xs a ys
@@ -84,7 +75,7 @@ blanks = blank ∷ blank ∷ blank ∷ blank ∷ blank ∷ blank ∷ blank ∷ b
 pub blanks_four : Fours blanks
 blanks_four = (refl, (refl, (refl, (refl, (refl, (refl, (refl, (refl, tt))))))))
 
--- the symbols of a rule, one more and all
+-- the symbols of a rule, one more
 pub symbols_more : (g : Grammar) (r n : ℕ) (a b : List ℕ) → n < 6 → set (a ∷ b ∷ map (symbol_field g r n) (range_with_len 0 6)) (2 + n) (boxed (symbol g r n)) ≡ a ∷ b ∷ map (symbol_field g r (n + 1)) (range_with_len 0 6)
 symbols_more g r zero a b h = refl
 symbols_more g r (suc zero) a b h = refl
@@ -93,11 +84,6 @@ symbols_more g r (suc (suc (suc zero))) a b h = refl
 symbols_more g r (suc (suc (suc (suc zero)))) a b h = refl
 symbols_more g r (suc (suc (suc (suc (suc zero))))) a b h = refl
 symbols_more g r (suc (suc (suc (suc (suc (suc n)))))) a b h = absurd (omega arith)
-
-pub symbols_all : (g : Grammar) (r n k : ℕ) → k ≡ min n 6 → map (symbol_field g r k) (range_with_len 0 6) ≡ map (symbol_field g r n) (range_with_len 0 6)
-symbols_all g r n k e = fill_by_all (symbol_field g r n) (map (symbol_field g r k) (range_with_len 0 6)) 6 [] (length-map-range_with_len (symbol_field g r k) 0 6)
-    (λ d l. let same : ltb d k ≡ ltb d n = grind (arith, nat_tests) in
-    place_inside (symbol_field g r k) 6 d [] l ∙ ap (λ t. cond t (boxed (symbol g r d)) blank) same)
 
 pub symbols_four : (g : Grammar) (r n : ℕ) → Fours (map (symbol_field g r n) (range_with_len 0 6))
 symbols_four g r n = (four 0, (four 1, (four 2, (four 3, (four 4, (four 5, tt)))))) where
@@ -162,9 +148,6 @@ pub rule_more : (g : Grammar) (r n v : ℕ) (was is : List ℕ) → n < 6 → wa
 rule_more g r n v was is l e same at =
     field_laid 82 (2 + n) v (symbol g r n) (rule_to g r n) was is e (omega (arith, length-map-range_with_len (symbol_field g r n) 0 6)) (rule_four g r n) same at
     ∙ ap (line_of 82) (symbols_more g r n (boxed (left g r)) (boxed (size g r)) l)
-
-pub rule_all : (g : Grammar) (r n : ℕ) (line : List ℕ) → n ≡ min (size g r) 6 → line ≡ line_of 82 (rule_to g r n) → line ≡ rule_line g r
-rule_all g r n line e is = is ∙ ap (λ fs. line_of 82 (boxed (left g r) ∷ boxed (size g r) ∷ fs)) (symbols_all g r (size g r) n e)
 
 -- all of a spelling told, in the line of key c
 pub key_all : (fs : List KeyForm) (c n : ℕ) (line : List ℕ) → n ≡ min (length (spelling fs c)) 24 → line ≡ line_of 75 (boxed c ∷ boxed (kind fs c) ∷ spread_to n (spelling fs c) ∷ []) → line ≡ key_line fs c

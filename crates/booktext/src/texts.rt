@@ -33,6 +33,7 @@ impl TextBook<'_> {
     }
 
     // The line of a rule.
+    #[tactic(auto, using(crate::proofs::Meant::text_rules))]
     fn rule_line(&self, rule: u16) -> Option<u32>
         ensures { Lined rule 1 (number_at self.now.text.now 0 3) 1 result }
     {
@@ -41,6 +42,7 @@ impl TextBook<'_> {
     }
 
     // The line of a key.
+    #[tactic(auto, using(crate::proofs::Meant::text_rules, crate::proofs::Meant::text_keys))]
     fn key_line(&self, key: u16) -> Option<u32>
         ensures { Lined key 33 (number_at self.now.text.now 0 1) (1 + number_at self.now.text.now 0 3) result }
     {

@@ -3,12 +3,13 @@ use Rattle.std.proofs.Math.Nat.{pow-suc, pow-le-pow_right}
 use Rattle.std.proofs.lemmas.Bool.{cases_lt, lt-ltb, ltb-true}
 use Rattle.booktext.proofs.fields.fits.Goals as goal
 
--- a number n with the logarithm l has no more than k figures exactly when l is below k
+-- more columns than the logarithm l hold all figures
 more_columns : (v n k l : ℕ) → v ≤ n → n < 10 * 10 ^ l → l < k → v < 10 ^ k
 more_columns v n k l below next h =
     let wide : 10 ^ suc l ≤ 10 ^ k = pow-le-pow_right (omega arith) h in
     omega (arith, pow-suc 10 l)
 
+-- columns that hold all figures are more than the logarithm l
 fewer_figures : (v n k l : ℕ) → n ≡ max v 1 → 10 ^ l ≤ n → 1 ≤ k → v < 10 ^ k → l < k
 fewer_figures v n k l is low some h = ⊎_elim (λ e. e)
     (λ past. let wide : 10 ^ k ≤ 10 ^ l = pow-le-pow_right (omega arith) past in

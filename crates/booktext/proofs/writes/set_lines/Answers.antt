@@ -1,14 +1,6 @@
-use Rattle.std.proofs.Common.{◌≡◌, ◌+◌, ◌-◌, ◌*◌, refl, ap, ◌∙◌, arith}
-use Rattle.std.specs.List.{range_with_len, flat_map}
-use Rattle.booktext.specs.Written.{put}
-use Rattle.booktext.proofs.Filled.{put_none, filled_more}
+use Rattle.std.proofs.Common.{◌+◌, ◌-◌, ◌*◌, refl, arith}
+use Rattle.booktext.proofs.Filled.{filled_more, filled_all}
 use Rattle.booktext.proofs.writes.set_lines.Goals as goal
-
-pub loop-number-init : goal.loop-number-init
-loop-number-init g c = λ f makes.
-    let first = c.args.numbers.start in
-    let none : 0 ≡ first - first = omega arith in
-    put_none c.args.space.now (34 * c.args.top) ∙ ap (λ n. put c.args.space.now (34 * c.args.top) (flat_map f (range_with_len first n))) none
 
 pub loop-number-preserved : goal.loop-number-preserved
 loop-number-preserved g c = λ f makes.
@@ -20,5 +12,4 @@ loop-number-preserved g c = λ f makes.
 pub returns : goal.returns
 returns g c = λ f makes.
     let first = c.args.numbers.start in
-    let all : c.loop-number.number - first ≡ c.args.numbers.end - first = omega arith in
-    c.loop-number.invariant f makes ∙ ap (λ n. put c.args.space.now (34 * c.args.top) (flat_map f (range_with_len first n))) all
+    filled_all f c.args.space.now c.loop-number.space (34 * c.args.top) (34 * c.args.top) first (c.loop-number.number - first) (c.args.numbers.end - first) (c.loop-number.invariant f makes) refl (omega arith)

@@ -1,17 +1,10 @@
-use Rattle.std.proofs.Common.{◌≡◌, ◌+◌, ◌-◌, ◌*◌, length, ap, ◌∙◌, arith}
-use Rattle.std.specs.List.{range_with_len, flat_map}
+use Rattle.std.proofs.Common.{◌+◌, ◌-◌, ◌*◌, length, refl, ap, ◌∙◌, arith}
 use Rattle.soundbook.specs.Sounds.{sound_meaning}
-use Rattle.booktext.specs.Written.{put, rule_line, key_line, rules_text, keys_text}
+use Rattle.booktext.specs.Written.{rule_line, key_line, rules_text, keys_text}
 use Rattle.booktext.proofs.Again.{fitting, each_form}
-use Rattle.booktext.proofs.Filled.{rule_length, key_length}
+use Rattle.booktext.proofs.Filled.{filled_all, rule_length, key_length}
 use Rattle.booktext.proofs.Formed.{stands}
 use Rattle.booktext.proofs.writes.write.Goals as goal
-
-pub overflow_add-rules : goal.overflow_add-rules
-overflow_add-rules c = omega (arith, c.rules.ensures, (fitting (sound_meaning c.args.book.now) c.args.book.now.sound).rules)
-
-pub overflow_add-keys : goal.overflow_add-keys
-overflow_add-keys c = omega (arith, c.keys.ensures.count, (fitting (sound_meaning c.args.book.now) c.args.book.now.sound).keys)
 
 pub returns : goal.returns
 unfolding rules_text keys_text
@@ -21,10 +14,7 @@ returns c =
     let g = m.grammar in
     let rules = c.set_lines.ensures (rule_line g) (record { line = λ n l h (b, is, same). is ∙ ap (λ s. rule_line (sound_meaning s).grammar n) same; wide = rule_length g }) in
     let keys = c.set_lines-2.ensures (key_line m.forms) (record { line = λ n l h (b, is, same). is ∙ ap (λ s. key_line (sound_meaning s).forms n) same; wide = key_length m.forms }) in
-    let told : 1 + c.rules.result - 1 ≡ length g.rules = omega (arith, c.rules.ensures) in
-    let after : 34 * (1 + c.from-top.result) ≡ 34 * (1 + length g.rules) = omega (arith, c.from-top.ensures, c.rules-2.ensures) in
-    let counted : 33 + c.keys.result - 33 ≡ g.keys = omega (arith, c.keys.ensures.count) in
     stands m c.args.space.now c.put.new.space c.set_lines.new.space c.set_lines-2.new.space c.head_line.result c.written_len-len.result
     c.written_len-len.ensures (fitting m book.sound) (each_form book.table) (omega arith) c.head_line.ensures c.put.ensures
-    (rules ∙ ap (λ k. put c.put.new.space 34 (flat_map (rule_line g) (range_with_len 1 k))) told)
-    (keys ∙ (ap (λ a. put c.set_lines.new.space a (flat_map (key_line m.forms) (range_with_len 33 (33 + c.keys.result - 33)))) after ∙ ap (λ k. put c.set_lines.new.space (34 * (1 + length g.rules)) (flat_map (key_line m.forms) (range_with_len 33 k))) counted))
+    (filled_all (rule_line g) c.put.new.space c.set_lines.new.space 34 34 1 (1 + c.rules.result - 1) (length g.rules) rules refl (omega (arith, c.rules.ensures)))
+    (filled_all (key_line m.forms) c.set_lines.new.space c.set_lines-2.new.space (34 * (1 + c.from-top.result)) (34 * (1 + length g.rules)) 33 (33 + c.keys.result - 33) g.keys keys (omega (arith, c.from-top.ensures, c.rules-2.ensures)) (omega (arith, c.keys.ensures.count)))
