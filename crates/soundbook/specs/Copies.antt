@@ -2,7 +2,7 @@
 use Rattle.std.specs.Prelude.{Result, Ok, Err, ◌≡◌, ℕ, ◌<◌, ◌≤◌, slice_index_or}
 use Rattle.rulebook.specs.declared.kinds.KeyKind.{KeyKind}
 use Rattle.rulebook.specs.declared.kinds.KeyKind.TheVariants.{Full, Figure, Shortened}
-use Rattle.soundbook.specs.declared.rows.Short.{Short}
+use Rattle.soundbook.specs.declared.shorts.Short.{Short}
 
 -- n items, each made for its place
 pub record Made {X E : Type 0} {N : ℕ} (Makes : ℕ → Result X E → Type 0) (past : X) (n : ℕ) (s : Short X N) : Type 0 where

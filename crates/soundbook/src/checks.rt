@@ -8,7 +8,8 @@ ghost use Rattle.soundbook.specs.Tables.{meaning_of};
 
 use super::copies::table_of;
 use super::derivations::{cyclic, unproductive};
-use super::rows::{KeyRow, RuleRow, Short};
+use super::rows::{KeyRow, RuleRow};
+use super::shorts::Short;
 use super::sounds::SoundBook;
 use super::tables::Table;
 use rulebook::{Book, Fault, KeyKind};

@@ -1,14 +1,15 @@
 // The first half of the check: a book's counts, rules and keys are asked one by one and copied to fixed memory.
-ghost use Rattle.std.specs.Prelude.{◌≡◌, ℕ, ◌+◌, ◌<◌, ◌≤◌, ◌⊎◌, ◌↔◌, IsTrue, MatchResult, slice_index};
+ghost use Rattle.std.specs.Prelude.{◌≡◌, ℕ, ◌+◌, ◌<◌, ◌≤◌, ◌⊎◌, ◌↔◌, IsTrue, MatchResult, map, slice_index};
 ghost use Rattle.language.specs.Book.{rule as rule_in, form as form_in, symbol as symbol_of, spelling as spelling_of, Part, Key, Numbered};
 ghost use Rattle.language.specs.Sound.{CountsFit, RuleFits, Letter, FormFits, WellFormed};
-ghost use Rattle.soundbook.specs.Rows.{listed, rule_of, form_of, blank_rule, blank_key};
+ghost use Rattle.soundbook.specs.Rows.{items_of, rule_of, form_of};
 ghost use Rattle.soundbook.specs.Tables.{meaning_of, Counted};
 ghost use Rattle.soundbook.specs.Refusals.{RuleRefused, RulesRefused, KeysRefused, CopyRefused};
 ghost use Rattle.soundbook.specs.Copies.{Made, FirstRefused, LengthFits};
 ghost use Rattle.rulebook.specs.declared.faults.Fault.TheVariants.{Counts as CountsFault, UnknownSymbol, KeyForm};
 
-use super::rows::{KeyRow, RuleRow, Short};
+use super::rows::{KeyRow, RuleRow};
+use super::shorts::Short;
 use super::tables::{Counts, Table};
 use rulebook::{Book, Fault, KeyKind};
 
@@ -115,7 +116,7 @@ impl<B: Book> Source<'_, B> {
 
     // All rules, if each fits.
     fn rules(&self) -> Result<Short<RuleRow, 128>, Fault>
-        ensures { let g = (B.meaning self.now.book.now).grammar in MatchResult result (λ s. (listed rule_of blank_rule s ≡ g.rules) × ((r : ℕ) → Numbered g r → RuleFits g (rule_in g.rules r))) (RulesRefused g) }
+        ensures { let g = (B.meaning self.now.book.now).grammar in MatchResult result (λ s. (map rule_of (items_of s) ≡ g.rules) × ((r : ℕ) → Numbered g r → RuleFits g (rule_in g.rules r))) (RulesRefused g) }
     {
         filled(
             RuleRow::BLANK,
@@ -156,7 +157,7 @@ impl<B: Book> Source<'_, B> {
 
     // The forms of all keys, if each fits.
     fn keys(&self) -> Result<Short<KeyRow, 32>, Fault>
-        ensures { let m = B.meaning self.now.book.now in MatchResult result (λ s. (listed form_of blank_key s ≡ m.forms) × ((c : ℕ) → Key m.grammar c → FormFits (form_in m.forms c))) (KeysRefused m) }
+        ensures { let m = B.meaning self.now.book.now in MatchResult result (λ s. (map form_of (items_of s) ≡ m.forms) × ((c : ℕ) → Key m.grammar c → FormFits (form_in m.forms c))) (KeysRefused m) }
     {
         filled(
             KeyRow::BLANK,

@@ -4,7 +4,8 @@ ghost use Rattle.language.specs.Book.{rule as rule_in, form as form_in};
 ghost use Rattle.soundbook.specs.Rows.{rule_of, form_of};
 ghost use Rattle.soundbook.specs.Tables.{meaning_of};
 
-use super::rows::{KeyRow, RuleRow, Short};
+use super::rows::{KeyRow, RuleRow};
+use super::shorts::Short;
 use rulebook::Book;
 
 // How many parts, keys and rules there are, and which part is the start.

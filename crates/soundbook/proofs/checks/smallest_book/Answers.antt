@@ -13,9 +13,9 @@ single w k = record { grammar = record { parts = 1; keys = 1; start = 1; rules =
 single_is : {w : Rule} {k : KeyForm} → w ≡ record { head = 1; body = 33 ∷ [] } → k ≡ record { kind = 0; spelling = codes "a" } → single w k ≡ smallest
 single_is r k = λ i. single (r i) (k i)
 
-pub invariant_of-result : goal.invariant_of-result
+pub invariant_of-result-3 : goal.invariant_of-result-3
 unfolding meaning_of
-invariant_of-result c = record { sound = ∣ subst Sound (sym (single_is c.smallest_rule.ensures c.smallest_key.ensures)) smallest_sound ∣₁ }
+invariant_of-result-3 c = record { sound = ∣ subst Sound (sym (single_is c.smallest_rule.ensures c.smallest_key.ensures)) smallest_sound ∣₁ }
 
 pub returns : goal.returns
 unfolding meaning_of
