@@ -56,10 +56,7 @@ fn smallest_rule() -> RuleRow
 {
     RuleRow {
         left: 1,
-        body: Short {
-            len: 1,
-            items: [33, 0, 0, 0, 0, 0],
-        },
+        body: Short::single(33, 0),
     }
 }
 
@@ -69,10 +66,7 @@ fn smallest_key() -> KeyRow
 {
     KeyRow {
         kind: KeyKind::Full,
-        spelling: Short {
-            len: 1,
-            items: *b"a\0\0\0\0\0\0\0\0\0\0\0\0\0\0\0\0\0\0\0\0\0\0\0",
-        },
+        spelling: Short::single(b'a', 0),
     }
 }
 
@@ -80,22 +74,12 @@ fn smallest_key() -> KeyRow
 pub fn smallest_book() -> SoundBook
     ensures { sound_meaning result ≡ smallest }
 {
-    let mut rules = [RuleRow::BLANK; 128];
-    rules[0] = smallest_rule();
-    let mut keys = [KeyRow::BLANK; 32];
-    keys[0] = smallest_key();
     SoundBook {
         table: Table {
             parts: 1,
             start: 1,
-            rules: Short {
-                len: 1,
-                items: rules,
-            },
-            keys: Short {
-                len: 1,
-                items: keys,
-            },
+            rules: Short::single(smallest_rule(), RuleRow::BLANK),
+            keys: Short::single(smallest_key(), KeyRow::BLANK),
         },
     }
 }

@@ -1,5 +1,5 @@
 // Lists of a few items in fixed memory.
-ghost use Rattle.std.specs.Prelude.{◌≡◌, ◌-◌, ◌≤◌, cond, length, nat_le, slice_index_or, take, ⊤};
+ghost use Rattle.std.specs.Prelude.{◌≡◌, [], ◌∷◌, ◌-◌, ◌≤◌, cond, length, nat_le, slice_index_or, take, ⊤};
 
 use rulebook::item_or;
 use std::alloc::AllocError;
@@ -25,6 +25,17 @@ impl<T: Copy, const N: usize> Clone for Short<T, N> {
 }
 
 impl<T: Copy, const N: usize> Short<T, N> {
+    // One item; the memory past it holds blanks.
+    pub(super) fn single(item: T, blank: T) -> Short<T, N>
+        requires { 1 ≤ N }
+        ensures len { result.len ≡ 1 }
+        ensures items { take result.len result.items ≡ item ∷ [] }
+    {
+        let mut items = [blank; N];
+        items[0] = item;
+        Short { len: 1, items }
+    }
+
     // The item at a place, counted from 0, or what stands in for one past the end.
     pub(super) fn item(&self, place: u16, past: T) -> T
         ensures { result ≡ slice_index_or (take self.now.len self.now.items) place past }
