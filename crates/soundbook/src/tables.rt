@@ -45,6 +45,7 @@ impl<const R: usize, const K: usize> TableOf<R, K> {
     }
 }
 
+#[tactic(auto, using(crate::proofs::Listing::items_long, crate::proofs::Listing::read_long), unfolding(crate::specs::Tables::meaning_of))]
 impl<const R: usize, const K: usize> Book for TableOf<R, K> {
     ghost meaning = { meaning_of };
 
