@@ -10,15 +10,15 @@ use Rattle.language.proofs.Told.{rule_place, form_place}
 use Rattle.rulebook.specs.Kinds.{kind_number}
 use Rattle.rulebook.specs.declared.kinds.KeyKind.{KeyKind}
 use Rattle.rulebook.specs.declared.kinds.KeyKind.TheVariants.{Full, Figure, Shortened}
-use Rattle.soundbook.specs.Copies.{Made, FirstRefused, LengthFits}
+use Rattle.soundbook.specs.Copies.{Counted, Made, FirstRefused, LengthFits}
 use Rattle.soundbook.specs.Refusals.{SymbolFault, RuleRefused, RulesRefused, KeysRefused}
 use Rattle.soundbook.specs.Rows.{items_of, rule_of, form_of}
-use Rattle.soundbook.specs.Tables.{Counted, meaning_of}
+use Rattle.soundbook.specs.Tables.{meaning_of}
 use Rattle.rulebook.specs.declared.faults.Fault.{Fault}
 use Rattle.rulebook.specs.declared.faults.Fault.TheVariants.{UnknownSymbol, KeyForm}
 use Rattle.soundbook.specs.declared.rows.KeyRow.{KeyRow}
 use Rattle.soundbook.specs.declared.rows.RuleRow.{RuleRow}
-use Rattle.soundbook.specs.declared.tables.Counts.{Counts}
+use Rattle.soundbook.specs.declared.copies.Counts.{Counts}
 use Rattle.soundbook.specs.declared.shorts.Short.{Short}
 use Rattle.soundbook.proofs.Listing.{items_long, read_long}
 

@@ -8,15 +8,6 @@ use super::rows::{KeyRow, RuleRow};
 use super::shorts::Short;
 use rulebook::Book;
 
-// How many parts, keys and rules there are, and which part is the start.
-#[derive(Clone, Copy)]
-pub struct Counts {
-    pub parts: u16,
-    pub keys: u16,
-    pub start: u16,
-    pub rules: u16,
-}
-
 // A book of at most R rules and K keys.
 #[derive(Clone, Copy)]
 pub struct TableOf<const R: usize, const K: usize> {
