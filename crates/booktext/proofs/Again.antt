@@ -4,14 +4,16 @@ use mathlib.Core.Logic.{∥∥₁_elim}
 use mathlib.Core.HLevel.{⊥_prop}
 use native.Mathlib.Bridge.{le_prop}
 use Rattle.std.specs.List.{range_with_len, flat_map}
-use Rattle.std.proofs.lemmas.List.FromFn.{fill_by_all, length-map-range_with_len}
+use Rattle.std.proofs.lemmas.List.FromFn.{fill_by_all}
 use Rattle.std.proofs.lemmas.List.{append_assoc, length-append, take_all, take_at, drop_at, drop-drop, get_or_at}
 use Rattle.std.proofs.lemmas.Bool.{cond-true, cond-false, lt-ltb, ne_eqb}
 use Rattle.language.specs.Book.{Rule, KeyForm, norule, noform, Grammar, Meaning, Numbered, Key, rule, left, size, symbol, form, kind, spelling}
 use Rattle.language.specs.Sound.{Sound, CountsFit, RuleFits, FormFits, named, figure, shortened, Letter, small, hyphen, Lettered}
 use Rattle.language.proofs.Told.{place_inside, rule_place, form_place}
+use Rattle.soundbook.specs.Rows.{form_of}
 use Rattle.soundbook.specs.Tables.{meaning_of}
 use Rattle.soundbook.specs.declared.tables.TableOf.{TableOf}
+use Rattle.soundbook.proofs.Listing.{read_long}
 use Rattle.booktext.specs.Columns.{shown, value}
 use Rattle.booktext.specs.Text.{middle_of, field_of, number_at, rule_at, form_at, text_meaning, spelled, spelling_field}
 use Rattle.booktext.specs.Written.{blank, boxed, line_of, head_line, symbol_field, rule_line, key_line, spread, rules_text, keys_text, text_of}
@@ -296,4 +298,4 @@ module _ (m : Meaning) where
 -- every key of a table has one form
 pub each_form : {R K : ℕ} (t : TableOf R K) → length (meaning_of t).forms ≡ (meaning_of t).grammar.keys
 unfolding meaning_of
-each_form t = length-map-range_with_len _ 0 t.keys.len
+each_form t = read_long t.keys form_of

@@ -1,44 +1,35 @@
--- What stands at the places of a short list, and which rule and which key a table has at a number.
-use Rattle.std.proofs.Common.{◌≡◌, ℕ, zero, suc, ◌-◌, ◌<◌, ◌≤◌, Bool, true, false, cond, leb, length, get_or, sym, refl, ap, ◌∙◌, ⊎_elim, arith}
-use Rattle.std.proofs.lemmas.Bool.{cases_lt, cond-true, le-leb}
-use Rattle.std.proofs.lemmas.List.FromFn.{length-map-range_with_len}
-use Rattle.language.specs.Book.{rule, form, noform}
-use Rattle.language.proofs.Told.{place_inside, place_outside}
-use Rattle.soundbook.specs.Rows.{listed, items_of, rule_of, form_of, blank_rule, blank_key}
-use Rattle.soundbook.specs.declared.rows.Short.{Short}
+-- How long a short list is, and which rule and which key a table has at a number.
+use Rattle.std.proofs.Common.{◌≡◌, ℕ, zero, suc, ◌-◌, Bool, true, false, cond, leb, List, map, length, get_or, sym, refl, ap, ◌∙◌, arith}
+use Rattle.std.proofs.Math.ListN.{get_or-map}
+use Rattle.std.proofs.lemmas.Bool.{cond-true, le-leb}
+use Rattle.std.proofs.lemmas.List.{length-map, length-take-le}
+use Rattle.language.specs.Book.{rule, form, norule, noform}
+use Rattle.soundbook.specs.Rows.{items_of, rule_of, form_of}
+use Rattle.soundbook.specs.declared.shorts.Short.{Short}
 use Rattle.soundbook.specs.declared.rows.RuleRow.{RuleRow}
 use Rattle.soundbook.specs.declared.rows.KeyRow.{KeyRow}
 
-module _ {X : Type 0} {N : ℕ} (past : X) (s : Short X N) (i : ℕ) where
-  pub item_inside : i < s.len → get_or (items_of past s) i past ≡ get_or s.items i past
-  item_inside = place_inside (λ j. get_or s.items j past) s.len i past
+module _ {X : Type 0} {N : ℕ} (s : Short X N) where
+  pub items_long : length (items_of s) ≡ s.len
+  items_long = length-take-le s.len s.items s.fits
 
-  pub item_past : s.len ≤ i → get_or (items_of past s) i past ≡ past
-  item_past = place_outside (λ j. get_or s.items j past) s.len i past
+  pub read_long : {Y : Type 0} (read : X → Y) → length (map read (items_of s)) ≡ s.len
+  read_long read = length-map (items_of s) read ∙ items_long
 
-module _ {X Y : Type 0} {N : ℕ} (read : X → Y) (past : X) (s : Short X N) where
-  pub listed_long : length (listed read past s) ≡ s.len
-  listed_long = length-map-range_with_len (λ j. read (get_or s.items j past)) 0 s.len
-
-  -- what an item means is the item of the meanings
-  pub item_read : (i : ℕ) → read (get_or (items_of past s) i past) ≡ get_or (listed read past s) i (read past)
-  item_read i =
-      ⊎_elim
-      (λ l. ap read (item_inside past s i l) ∙ sym (place_inside (λ j. read (get_or s.items j past)) s.len i (read past) l))
-      (λ l. ap read (item_past past s i l) ∙ sym (place_outside (λ j. read (get_or s.items j past)) s.len i (read past) l))
-      (cases_lt i s.len)
-
-pub rule_numbered : {N : ℕ} (s : Short RuleRow N) (r : ℕ) → rule_of (cond (leb 1 r) (get_or (items_of blank_rule s) (r - 1) blank_rule) blank_rule) ≡ rule (listed rule_of blank_rule s) r
+-- what a row means is the item of the meanings, and a blank row means what stands outside a book
+pub rule_numbered : (ws : List RuleRow) (blank : RuleRow) (r : ℕ) → rule_of blank ≡ norule → rule_of (cond (leb 1 r) (get_or ws (r - 1) blank) blank) ≡ rule (map rule_of ws) r
 unfolding rule
-rule_numbered s zero = refl
-rule_numbered s (suc r) =
+rule_numbered ws blank zero none = none
+rule_numbered ws blank (suc r) none =
     let same : suc r - 1 ≡ r = omega arith in
-    ap rule_of (cond-true (leb 1 (suc r)) _ blank_rule (le-leb 1 (suc r) (omega arith)) ∙ ap (λ i. get_or (items_of blank_rule s) i blank_rule) same) ∙ item_read rule_of blank_rule s r
+    ap rule_of (cond-true (leb 1 (suc r)) _ blank (le-leb 1 (suc r) (omega arith)) ∙ ap (λ i. get_or ws i blank) same)
+    ∙ (sym (get_or-map rule_of ws r blank) ∙ ap (λ d. get_or (map rule_of ws) r d) none)
 
-pub form_numbered : {N : ℕ} (s : Short KeyRow N) (c : ℕ) → form_of (cond (leb 33 c) (get_or (items_of blank_key s) (c - 33) blank_key) blank_key) ≡ form (listed form_of blank_key s) c
+pub form_numbered : (ws : List KeyRow) (blank : KeyRow) (c : ℕ) → form_of blank ≡ noform → form_of (cond (leb 33 c) (get_or ws (c - 33) blank) blank) ≡ form (map form_of ws) c
 unfolding form
-form_numbered s c = either (leb 33 c) _ ∙ ap (λ w. cond (leb 33 c) w noform) (item_read form_of blank_key s (c - 33))
+form_numbered ws blank c none =
+    either (leb 33 c) _ ∙ ap (λ w. cond (leb 33 c) w noform) (sym (get_or-map form_of ws (c - 33) blank) ∙ ap (λ d. get_or (map form_of ws) (c - 33) d) none)
   where
-    either : (b : Bool) (w : KeyRow) → form_of (cond b w blank_key) ≡ cond b (form_of w) noform
+    either : (b : Bool) (w : KeyRow) → form_of (cond b w blank) ≡ cond b (form_of w) noform
     either true w = refl
-    either false w = refl
+    either false w = none

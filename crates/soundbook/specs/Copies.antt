@@ -1,8 +1,18 @@
 -- What is copied of a book to fixed memory.
-use Rattle.std.specs.Prelude.{Result, Ok, Err, ◌≡◌, ℕ, ◌<◌, ◌≤◌, slice_index_or}
+use Rattle.std.specs.Prelude.{Result, Ok, Err, ◌≡◌, ℕ, ◌<◌, ◌≤◌, length, slice_index_or}
+use Rattle.language.specs.Book.{Meaning}
 use Rattle.rulebook.specs.declared.kinds.KeyKind.{KeyKind}
 use Rattle.rulebook.specs.declared.kinds.KeyKind.TheVariants.{Full, Figure, Shortened}
-use Rattle.soundbook.specs.declared.rows.Short.{Short}
+use Rattle.soundbook.specs.declared.copies.Counts.{Counts}
+use Rattle.soundbook.specs.declared.shorts.Short.{Short}
+
+-- these are the counts of the book
+pub record Counted (m : Meaning) (c : Counts) : Type 0 where
+  pub parts : c.parts ≡ m.grammar.parts
+  pub keys : c.keys ≡ m.grammar.keys
+  pub forms : c.keys ≡ length m.forms
+  pub start : c.start ≡ m.grammar.start
+  pub rules : c.rules ≡ length m.grammar.rules
 
 -- n items, each made for its place
 pub record Made {X E : Type 0} {N : ℕ} (Makes : ℕ → Result X E → Type 0) (past : X) (n : ℕ) (s : Short X N) : Type 0 where

@@ -6,7 +6,8 @@ ghost use Rattle.soundbook.specs.Rows.{rule_of, form_of};
 ghost use Rattle.soundbook.specs.Sounds.{sound_meaning, smallest};
 
 use super::copies::table_of;
-use super::rows::{KeyRow, RuleRow, Short};
+use super::rows::{KeyRow, RuleRow};
+use super::shorts::Short;
 use super::sounds::SoundBook;
 use super::tables::Table;
 use rulebook::{Book, Fault, KeyKind};
@@ -46,10 +47,7 @@ fn smallest_rule() -> RuleRow
 {
     RuleRow {
         left: 1,
-        body: Short {
-            len: 1,
-            items: [33, 0, 0, 0, 0, 0],
-        },
+        body: Short::single(33, 0),
     }
 }
 
@@ -59,10 +57,7 @@ fn smallest_key() -> KeyRow
 {
     KeyRow {
         kind: KeyKind::Full,
-        spelling: Short {
-            len: 1,
-            items: *b"a\0\0\0\0\0\0\0\0\0\0\0\0\0\0\0\0\0\0\0\0\0\0\0",
-        },
+        spelling: Short::single(b'a', 0),
     }
 }
 
@@ -70,22 +65,12 @@ fn smallest_key() -> KeyRow
 pub fn smallest_book() -> SoundBook
     ensures { sound_meaning result ≡ smallest }
 {
-    let mut rules = [RuleRow::BLANK; 128];
-    rules[0] = smallest_rule();
-    let mut keys = [KeyRow::BLANK; 32];
-    keys[0] = smallest_key();
     SoundBook {
         table: Table {
             parts: 1,
             start: 1,
-            rules: Short {
-                len: 1,
-                items: rules,
-            },
-            keys: Short {
-                len: 1,
-                items: keys,
-            },
+            rules: Short::single(smallest_rule(), RuleRow::BLANK),
+            keys: Short::single(smallest_key(), KeyRow::BLANK),
         },
     }
 }

@@ -1,16 +1,17 @@
 // The first half of the check: a book's counts, rules and keys are asked one by one and copied to fixed memory.
-ghost use Rattle.std.specs.Prelude.{◌≡◌, ℕ, ◌+◌, ◌<◌, ◌≤◌, ◌⊎◌, ◌↔◌, IsTrue, MatchResult, slice_index};
+ghost use Rattle.std.specs.Prelude.{◌≡◌, ℕ, ◌+◌, ◌<◌, ◌≤◌, ◌⊎◌, ◌↔◌, IsTrue, MatchResult, map, slice_index};
 ghost use Rattle.language.specs.Book.{rule as rule_in, form as form_in, symbol as symbol_of, spelling as spelling_of, Part, Key, Numbered};
 ghost use Rattle.language.specs.Sound.{CountsFit, RuleFits, Letter, FormFits, WellFormed};
-ghost use Rattle.soundbook.specs.Rows.{listed, rule_of, form_of, blank_rule, blank_key};
-ghost use Rattle.soundbook.specs.Tables.{meaning_of, Counted};
+ghost use Rattle.soundbook.specs.Rows.{items_of, rule_of, form_of};
+ghost use Rattle.soundbook.specs.Tables.{meaning_of};
 ghost use Rattle.soundbook.specs.Refusals.{RuleRefused, RulesRefused, KeysRefused, CopyRefused};
-ghost use Rattle.soundbook.specs.Copies.{Made, FirstRefused, LengthFits};
+ghost use Rattle.soundbook.specs.Copies.{Counted, Made, FirstRefused, LengthFits};
 ghost use Rattle.rulebook.specs.declared.faults.Fault.TheVariants.{Counts as CountsFault, UnknownSymbol, KeyForm};
 
 use super::derivations::FormedTable;
-use super::rows::{KeyRow, RuleRow, Short};
-use super::tables::{Counts, Table};
+use super::rows::{KeyRow, RuleRow};
+use super::shorts::Short;
+use super::tables::Table;
 use rulebook::{Book, Fault, KeyKind};
 
 // Items that are made one by one, or the first refusal of one.
@@ -30,6 +31,26 @@ fn filled<T: Copy, E, const N: usize, F: Fn(u16) -> Result<T, E>>(
     Ok(Short { len: count, items })
 }
 
+// How many parts, keys and rules there are, and which part is the start.
+#[derive(Clone, Copy)]
+struct Counts {
+    parts: u16,
+    keys: u16,
+    start: u16,
+    rules: u16,
+}
+
+impl Counts {
+    fn in_bounds(&self) -> bool
+        ensures { let c = self.now in IsTrue result ↔ ((1 ≤ c.parts) × (c.parts ≤ 32) × (1 ≤ c.keys) × (c.keys ≤ 32) × (1 ≤ c.start) × (c.start ≤ c.parts) × (1 ≤ c.rules) × (c.rules ≤ 128)) }
+    {
+        (1..=32).contains(&self.parts)
+            && (1..=32).contains(&self.keys)
+            && (1..=self.parts).contains(&self.start)
+            && (1..=128).contains(&self.rules)
+    }
+}
+
 // A book of any make with its counts, which are in bounds.
 #[derive(Drop)]
 struct Source<'b, B: Book> {
@@ -44,21 +65,13 @@ impl<'b, B: Book> Source<'b, B> {
     fn of(book: &'b B) -> Result<Source<'b, B>, Fault>
         ensures { MatchResult result (λ s. s.book.now ≡ book.now) (λ f. (f ≡ CountsFault) × (CountsFit (B.meaning book.now).grammar → ⊥)) }
     {
-        let parts = book.parts();
-        let keys = book.keys();
-        let start = book.start();
-        let rules = book.rules();
-        if (1..=32).contains(&parts)
-            && (1..=32).contains(&keys)
-            && (1..=parts).contains(&start)
-            && (1..=128).contains(&rules)
-        {
-            let counts = Counts {
-                parts,
-                keys,
-                start,
-                rules,
-            };
+        let counts = Counts {
+            parts: book.parts(),
+            keys: book.keys(),
+            start: book.start(),
+            rules: book.rules(),
+        };
+        if counts.in_bounds() {
             Ok(Source { book, counts })
         } else {
             Err(Fault::Counts)
@@ -116,7 +129,7 @@ impl<B: Book> Source<'_, B> {
 
     // All rules, if each fits.
     fn rules(&self) -> Result<Short<RuleRow, 128>, Fault>
-        ensures { let g = (B.meaning self.now.book.now).grammar in MatchResult result (λ s. (listed rule_of blank_rule s ≡ g.rules) × ((r : ℕ) → Numbered g r → RuleFits g (rule_in g.rules r))) (RulesRefused g) }
+        ensures { let g = (B.meaning self.now.book.now).grammar in MatchResult result (λ s. (map rule_of (items_of s) ≡ g.rules) × ((r : ℕ) → Numbered g r → RuleFits g (rule_in g.rules r))) (RulesRefused g) }
     {
         filled(
             RuleRow::BLANK,
@@ -157,7 +170,7 @@ impl<B: Book> Source<'_, B> {
 
     // The forms of all keys, if each fits.
     fn keys(&self) -> Result<Short<KeyRow, 32>, Fault>
-        ensures { let m = B.meaning self.now.book.now in MatchResult result (λ s. (listed form_of blank_key s ≡ m.forms) × ((c : ℕ) → Key m.grammar c → FormFits (form_in m.forms c))) (KeysRefused m) }
+        ensures { let m = B.meaning self.now.book.now in MatchResult result (λ s. (map form_of (items_of s) ≡ m.forms) × ((c : ℕ) → Key m.grammar c → FormFits (form_in m.forms c))) (KeysRefused m) }
     {
         filled(
             KeyRow::BLANK,

@@ -7,6 +7,7 @@ mod copies;
 mod corners;
 mod derivations;
 mod rows;
+mod shorts;
 mod sounds;
 mod tables;
 mod works;

@@ -1,38 +1,6 @@
-// Rows of fixed memory: lists of a few items, a rule, and the form of a key.
-ghost use Rattle.std.specs.Prelude.{◌≡◌, ◌-◌, cond, nat_le, slice_index_or};
-ghost use Rattle.soundbook.specs.Rows.{items_of};
-
-use rulebook::{KeyKind, item_or};
-
-// At most N items in fixed memory: the first ones, as many as the length.
-#[derive(Clone, Copy)]
-pub struct Short<T, const N: usize> {
-    pub len: u16,
-    pub items: [T; N],
-}
-
-impl<T: Copy, const N: usize> Short<T, N> {
-    // The item at a place, counted from 0, or what stands in for one past the end.
-    pub(super) fn item(&self, place: u16, past: T) -> T
-        ensures { result ≡ slice_index_or (items_of past self.now) place past }
-    {
-        if place < self.len {
-            item_or(&self.items, place, past)
-        } else {
-            past
-        }
-    }
-
-    // The item of a number, where the first item has the number first.
-    pub(super) fn numbered(&self, number: u16, first: u16, past: T) -> T
-        ensures { result ≡ cond (nat_le first number) (slice_index_or (items_of past self.now) (number - first) past) past }
-    {
-        match number.checked_sub(first) {
-            Some(place) => self.item(place, past),
-            None => past,
-        }
-    }
-}
+// Rows of fixed memory: a rule, and the form of a key.
+use super::shorts::Short;
+use rulebook::KeyKind;
 
 // A rule of at most six symbols.
 #[derive(Clone, Copy)]

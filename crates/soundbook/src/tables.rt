@@ -4,17 +4,9 @@ ghost use Rattle.language.specs.Book.{rule as rule_in, form as form_in};
 ghost use Rattle.soundbook.specs.Rows.{rule_of, form_of};
 ghost use Rattle.soundbook.specs.Tables.{meaning_of};
 
-use super::rows::{KeyRow, RuleRow, Short};
+use super::rows::{KeyRow, RuleRow};
+use super::shorts::Short;
 use rulebook::Book;
-
-// How many parts, keys and rules there are, and which part is the start.
-#[derive(Clone, Copy)]
-pub struct Counts {
-    pub parts: u16,
-    pub keys: u16,
-    pub start: u16,
-    pub rules: u16,
-}
 
 // A book of at most R rules and K keys.
 #[derive(Clone, Copy)]
@@ -44,6 +36,7 @@ impl<const R: usize, const K: usize> TableOf<R, K> {
     }
 }
 
+#[tactic(auto, using(crate::proofs::Listing::items_long, crate::proofs::Listing::read_long), unfolding(crate::specs::Tables::meaning_of))]
 impl<const R: usize, const K: usize> Book for TableOf<R, K> {
     ghost meaning = { meaning_of };
 

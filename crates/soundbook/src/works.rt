@@ -1,7 +1,8 @@
 // The works book: the book that the unit carries as a constant table.
 ghost use Rattle.soundbook.specs.Works.{works};
 
-use super::rows::{KeyRow, RuleRow, Short};
+use super::rows::{KeyRow, RuleRow};
+use super::shorts::Short;
 use super::tables::TableOf;
 use rulebook::{Book, KeyKind};
 

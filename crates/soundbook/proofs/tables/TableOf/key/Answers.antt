@@ -1,4 +1,4 @@
-use Rattle.std.proofs.Common.{ap, ◌∙◌}
+use Rattle.std.proofs.Common.{refl, ap, ◌∙◌}
 use Rattle.soundbook.specs.Rows.{form_of}
 use Rattle.soundbook.specs.Tables.{meaning_of}
 use Rattle.soundbook.proofs.Listing.{form_numbered}
@@ -6,4 +6,4 @@ use Rattle.soundbook.proofs.tables.TableOf.key.Goals as goal
 
 pub returns : goal.returns
 unfolding meaning_of
-returns g c = ap form_of c.numbered.ensures ∙ form_numbered c.args.self.now.keys c.args.key
+returns g c = ap form_of c.numbered.ensures ∙ form_numbered _ _ c.args.key refl

@@ -1,6 +1,0 @@
-use Rattle.std.proofs.Common.{length, sym, ap, ◌∙◌}
-use Rattle.soundbook.proofs.Listing.{listed_long}
-use Rattle.soundbook.proofs.tables.TableOfBook.size.Goals as goal
-
-pub returns : goal.returns
-returns g c = sym (listed_long (λ x. x) 0 c.rule.result.body) ∙ ap (λ w. length w.body) c.rule.ensures
