@@ -1,4 +1,4 @@
--- What one step of copying a book to fixed memory keeps.
+-- What is known of a book once its symbols, rules and keys are read one by one.
 use Rattle.std.proofs.Common.{Result, Ok, Err, ◌≡◌, ℕ, ◌+◌, ◌-◌, ◌<◌, ◌≤◌, Bool, true, false, ◌⊎◌, List, map, length, get_or, Decides, MatchResult, sym, ap, ◌∙◌, subst, add_comm, arith}
 use Rattle.std.proofs.Math.ListN.{get_or-map}
 use Rattle.std.proofs.lemmas.List.{ext_get_or, get_or-take}
@@ -11,7 +11,7 @@ use Rattle.rulebook.specs.Kinds.{kind_number}
 use Rattle.rulebook.specs.declared.kinds.KeyKind.{KeyKind}
 use Rattle.rulebook.specs.declared.kinds.KeyKind.TheVariants.{Full, Figure, Shortened}
 use Rattle.soundbook.specs.Copies.{Counted, Made, FirstRefused, LengthFits}
-use Rattle.soundbook.specs.Refusals.{SymbolFault, RuleRefused, RulesRefused, KeysRefused}
+use Rattle.soundbook.specs.Refusals.{RuleRefused, RulesRefused, KeysRefused}
 use Rattle.soundbook.specs.Rows.{items_of, rule_of, form_of}
 use Rattle.soundbook.specs.Tables.{meaning_of}
 use Rattle.rulebook.specs.declared.faults.Fault.{Fault}
@@ -47,10 +47,13 @@ module _ {X E : Type 0} {N n : ℕ} {Makes : ℕ → Result X E → Type 0} {pas
 
 -- the first symbol that is refused, and the row of a rule whose symbols are read
 module _ {Makes : ℕ → Result ℕ Fault → Type 0} {n : ℕ} (g : Grammar) (r : ℕ) where
-  pub symbols_refused : {f : Fault} → FirstRefused Makes n f → n ≡ size g r → ((i x : ℕ) → i < n → Makes i (Ok x) → Known g (symbol g r i)) → ((i : ℕ) (h : Fault) → i < n → Makes i (Err h) → (h ≡ UnknownSymbol r (i + 1)) × (Known g (symbol g r i) → ⊥)) → SymbolFault g r (rule g.rules r) f
-  symbols_refused h n ok err =
+  pub rule_refused : {f : Fault} → FirstRefused Makes n f → Part g (left g r) → n ≡ size g r → 1 ≤ n → n ≤ 6
+      → ((i x : ℕ) → i < n → Makes i (Ok x) → Known g (symbol g r i))
+      → ((i : ℕ) (h : Fault) → i < n → Makes i (Err h) → (h ≡ UnknownSymbol r (i + 1)) × (Known g (symbol g r i) → ⊥))
+      → RuleRefused g r (rule g.rules r) f
+  rule_refused h part long some few ok err =
       let no = err h.at _ h.inside h.refused in
-      rw no.0 (SymbolFault.unknown h.at (record { inside = omega arith; before = λ e l. let x = h.before e l in ok e x.0 (omega arith) x.1; unknown = no.1 }))
+      rw no.0 (RuleRefused.symbol h.at part (omega arith) (omega arith) (record { inside = omega arith; before = λ e l. let x = h.before e l in ok e x.0 (omega arith) x.1; unknown = no.1 }))
 
   pub rule_read : (w : RuleRow) → Made Makes 0 n w.body → ((i x : ℕ) → i < n → Makes i (Ok x) → (x ≡ symbol g r i) × Known g (symbol g r i)) → Part g (left g r) → w.left ≡ left g r → n ≡ size g r → 1 ≤ n → n ≤ 6 → (rule_of w ≡ rule g.rules r) × RuleFits g (rule g.rules r)
   rule_read w h ok part l long some few =
