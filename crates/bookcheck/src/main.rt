@@ -2,7 +2,8 @@
 #![tactic(auto)]
 
 use bookreport::report_of;
-use std::io::{ErrorKind, Read};
+use files::if_present;
+use std::io::Read;
 use std::{fs, io};
 
 // The longest text of a book, and one byte more: a longer one is refused without reading it all.
@@ -11,28 +12,14 @@ const MOST: u64 = 5475;
 // The text of the book; a missing file counts as empty.
 fn book_text(rt: &HostRuntime) -> io::Result<Vec<u8>> {
     let mut text = Vec::new(rt.alloc());
-    match fs::open(rt, "press.book") {
-        Ok(file) => {
-            file.take(MOST).read_to_end(&mut text)?;
-            Ok(text)
-        }
-        Err(error) => {
-            if error.kind() == ErrorKind::NotFound {
-                Ok(text)
-            } else {
-                Err(error)
-            }
-        }
+    if let Some(file) = if_present(fs::open(rt, "press.book"))? {
+        file.take(MOST).read_to_end(&mut text)?;
     }
-}
-
-fn run(rt: &HostRuntime) -> anyhow::Result<()> {
-    let text = book_text(rt)?;
-    let said = report_of(rt.alloc(), text.as_slice())?;
-    rt.print(said)?;
-    Ok(())
+    Ok(text)
 }
 
 fn main(rt: HostRuntime) -> anyhow::Result<()> {
-    run(&rt)
+    let text = book_text(&rt)?;
+    rt.print(report_of(rt.alloc(), text.as_slice())?)?;
+    Ok(())
 }

@@ -1,8 +1,9 @@
 -- What is found in a text.
-use Rattle.std.specs.Prelude.{◌≡◌, ℕ, ◌+◌, ◌*◌, Bool, cond, ◌⊎◌, List, [], ◌∷◌, ◌++◌, length, take, codes, decimal, Decides, IsTrue}
+use Rattle.std.specs.Prelude.{◌≡◌, ℕ, ◌*◌, Bool, cond, ◌⊎◌, List, ◌++◌, length, take, sum_by, codes, decimal, IsTrue, ◌↔◌}
 use Rattle.language.specs.Book.{Rule, Meaning}
 use Rattle.language.specs.Sound.{Sound}
 use Rattle.lines.specs.Columns.{told_fault}
+use Rattle.rulebook.specs.Sentences.{sentence_of}
 use Rattle.rulebook.specs.declared.faults.Fault.{Fault}
 use Rattle.soundbook.specs.Refusals.{Refused, CheckRefuses}
 use Rattle.booktext.specs.Form.{AllYes, FirstNo, questions}
@@ -12,8 +13,7 @@ use Rattle.bookreport.specs.declared.examination.Findings.{Findings}
 
 -- how many symbols the right sides of rules have
 abbrev pub symbols_in : List Rule → ℕ
-symbols_in [] = 0
-symbols_in (w ∷ ws) = length w.body + symbols_in ws
+symbols_in rs = sum_by (λ (w : Rule). length w.body) rs
 
 -- the text is in form and its book is sound
 pub record Accepted (t : List ℕ) : Type 0 where
@@ -52,7 +52,7 @@ pub record CountsFound (m : Meaning) (d : Findings) : Type 0 where
 -- the findings in the text t: the counts of its book, and whether that is written back as t
 pub record Found (t : List ℕ) (d : Findings) : Type 0 where
   pub counts : CountsFound (text_meaning t) d
-  pub back : Decides d.same (text_of (text_meaning t) ≡ t)
+  pub back : IsTrue d.same ↔ (text_of (text_meaning t) ≡ t)
 
 -- the book of t is written back into a space: the first bytes are t itself, those past them are as they were
 pub record WrittenBack (t was is : List ℕ) : Type 0 where
@@ -76,9 +76,9 @@ told_findings d = told_with d (told_back d.same)
 abbrev pub Told : List ℕ → List ℕ → Type 0
 Told t s = (Accepted t × ((d : Findings) × Found t d × (s ≡ told_findings d))) ⊎ ((f : Fault) × TextRefused t f)
 
--- what is said of a refusal: the line of its four numbers, and a sentence
+-- what is said of a refusal: the line of its four numbers, and its sentence
 abbrev pub ToldRefusal : Fault → List ℕ → Type 0
-ToldRefusal f s = (sentence : List ℕ) × (s ≡ told_fault f ++ (sentence ++ codes "\n"))
+ToldRefusal f s = s ≡ told_fault f ++ (sentence_of f ++ codes "\n")
 
 -- what is said of a text, in full: the findings in its sound book, which is written back byte for byte, or the refusal
 abbrev pub ToldFully : List ℕ → List ℕ → Type 0

@@ -1,5 +1,5 @@
 // A text is read, its book checked and written back.
-ghost use Rattle.std.specs.Prelude.{◌≡◌, ◌*◌, ◌<◌, ◌⊎◌, length, Decides, IsTrue, IfOk, IfErr, MatchResult};
+ghost use Rattle.std.specs.Prelude.{◌≡◌, ◌*◌, ◌<◌, ◌⊎◌, length, IsTrue, IfOk, IfErr, MatchResult};
 ghost use Rattle.soundbook.specs.Sounds.{sound_meaning};
 ghost use Rattle.booktext.specs.Text.{text_meaning};
 ghost use Rattle.booktext.specs.Written.{lines_in, Stands};
@@ -10,7 +10,7 @@ use rulebook::{Book, Fault};
 use soundbook::{SoundBook, check, smallest_book};
 
 // What was found in a text whose book is sound.
-#[derive(Clone, Copy)]
+#[derive(Clone, Copy, Debug, PartialEq, Eq, Hash)]
 pub struct Findings {
     pub parts: u16,
     pub keys: u16,
@@ -25,28 +25,19 @@ pub struct Findings {
 fn symbols_of<B: Book>(book: &B) -> usize
     ensures { result ≡ symbols_in (B.meaning book.now).grammar.rules }
 {
-    let mut symbols = 0;
-    for place in 0..book.rules() {
-        symbols += book.size(place + 1) as usize;
-    }
-    symbols
+    (0..book.rules())
+        .map(|place| usize::from(book.size(place + 1)))
+        .sum()
 }
 
 // The sound book of a text, or the first question answered no: those of the text, then those of the book.
-fn sound_book(text: &[u8]) -> Result<SoundBook, Fault>
+pub fn sound_book(text: &[u8]) -> Result<SoundBook, Fault>
     ensures { MatchResult result (λ s. Accepted text.now × (sound_meaning s ≡ text_meaning text.now)) (λ f. RefusedAlone text.now f) }
 {
     let book = TextBook::read(text)?;
     let mut place = smallest_book();
     check(&book, &mut place)?;
     Ok(place)
-}
-
-// Whether two texts are the same bytes.
-fn is_same(one: &[u8], other: &[u8]) -> bool
-    ensures { Decides result (one.now ≡ other.now) }
-{
-    one == other
 }
 
 // The findings in a book that was written back as it was read, or not.
@@ -73,6 +64,6 @@ pub fn examine(text: &[u8], space: &mut [u8]) -> Result<Findings, Fault>
 {
     let book = sound_book(text)?;
     let len = write(&book, space)?;
-    let same = is_same(&space[0..len], text);
+    let same = &space[..len] == text;
     Ok(findings_of(&book, same))
 }

@@ -6,5 +6,5 @@ mod reports;
 #[cfg(test)]
 mod tests;
 
-pub use examination::{Findings, examine};
+pub use examination::{Findings, examine, sound_book};
 pub use reports::report_of;

@@ -1,5 +1,7 @@
-use Rattle.std.proofs.Common.{◌≡◌, ℕ, ◌-◌, List, length, take, refl, sym, ap, ◌∙◌, subst, inl, arith}
+use Rattle.std.proofs.Common.{◌≡◌, ℕ, ◌-◌, List, length, take, refl, sym, ap, ◌∙◌, subst, inl, arith, Decides, rules}
 use Rattle.std.proofs.lemmas.Result.{err_from_is_err_and}
+use Rattle.std.proofs.lemmas.Bool.Decides.{Decides-eqb}
+use Rattle.std.proofs.lemmas.Slice.Eq.{slice_eq-Decides}
 use Rattle.booktext.specs.Text.{text_meaning}
 use Rattle.booktext.specs.Written.{Stands}
 use Rattle.booktext.proofs.Back.{back_again}
@@ -34,5 +36,6 @@ returns-clause-back c =
     let stands = subst (λ m. Stands m c.args.space.now c.write.new.space c.in_ok-len.len) is c.in_ok-len.ensures in
     let back = written_back t c.args.space.now c.write.new.space c.in_ok-len.len accepted stands in
     let long : c.in_ok-len.len - 0 ≡ length t = omega (arith, stands.count, accepted.long) in
-    let same = c.is_same-same.ensures.1 (ap (λ n. take n c.write.new.space) long ∙ back.same) in
+    let decided : Decides c.eq-same.result (take (c.in_ok-len.len - 0) c.write.new.space ≡ t) = search (rules, slice_eq-Decides Decides-eqb) in
+    let same = decided.1 (ap (λ n. take n c.write.new.space) long ∙ back.same) in
     (c.findings_of.ensures.back ∙ same, back)
