@@ -1,7 +1,7 @@
--- What one step of copying a book to fixed memory keeps.
+-- What is known of a book once its symbols, rules and keys are read one by one.
 use Rattle.std.proofs.Common.{Result, Ok, Err, ◌≡◌, ℕ, ◌+◌, ◌-◌, ◌<◌, ◌≤◌, Bool, true, false, ◌⊎◌, List, map, length, get_or, Decides, MatchResult, sym, ap, ◌∙◌, subst, add_comm, arith}
 use Rattle.std.proofs.Math.ListN.{get_or-map}
-use Rattle.std.proofs.lemmas.List.{ext_get_or, get_or-take}
+use Rattle.std.proofs.lemmas.List.{ext_get_or, get_or-take, map-id}
 use Rattle.std.proofs.lemmas.Result.{MatchResult-weaker}
 use Rattle.std.proofs.lemmas.Bool.Decides.{not_from_Decides}
 use Rattle.language.specs.Book.{Grammar, Meaning, KeyForm as Form, norule, noform, rule, left, right, size, symbol, form, kind, spelling, Part, Key, Numbered}
@@ -11,7 +11,7 @@ use Rattle.rulebook.specs.Kinds.{kind_number}
 use Rattle.rulebook.specs.declared.kinds.KeyKind.{KeyKind}
 use Rattle.rulebook.specs.declared.kinds.KeyKind.TheVariants.{Full, Figure, Shortened}
 use Rattle.soundbook.specs.Copies.{Counted, Made, FirstRefused, LengthFits}
-use Rattle.soundbook.specs.Refusals.{SymbolFault, RuleRefused, RulesRefused, KeysRefused}
+use Rattle.soundbook.specs.Refusals.{RuleRefused, RulesRefused, KeysRefused}
 use Rattle.soundbook.specs.Rows.{items_of, rule_of, form_of}
 use Rattle.soundbook.specs.Tables.{meaning_of}
 use Rattle.rulebook.specs.declared.faults.Fault.{Fault}
@@ -20,7 +20,7 @@ use Rattle.soundbook.specs.declared.rows.KeyRow.{KeyRow}
 use Rattle.soundbook.specs.declared.rows.RuleRow.{RuleRow}
 use Rattle.soundbook.specs.declared.copies.Counts.{Counts}
 use Rattle.soundbook.specs.declared.shorts.Short.{Short}
-use Rattle.soundbook.proofs.Listing.{items_long, read_long}
+use Rattle.soundbook.proofs.Listing.{read_long}
 
 -- a part or a key
 abbrev pub Known : Grammar → ℕ → Type 0
@@ -36,21 +36,23 @@ module _ {g : Grammar} {b : Bool} {s x : ℕ} where
 
 -- items that are made one by one are a list where each that is made means what the list has there
 module _ {X E : Type 0} {N n : ℕ} {Makes : ℕ → Result X E → Type 0} {past : X} {s : Short X N} (h : Made Makes past n s) where
-  pub made_is : (ys : List X) → n ≡ length ys → ((i : ℕ) (x : X) → i < n → Makes i (Ok x) → x ≡ get_or ys i past) → items_of s ≡ ys
-  made_is ys long each = ext_get_or past (items_of s) ys (items_long s ∙ (h.long ∙ long))
-      (λ i l. let inside : i < n = omega (arith, items_long s, h.long) in get_or-take s.len s.items i past (omega (arith, h.long)) ∙ each i _ inside (h.each i inside))
-
   pub made_reads : {Y : Type 0} (read : X → Y) (ys : List Y) → n ≡ length ys → ((i : ℕ) (x : X) → i < n → Makes i (Ok x) → read x ≡ get_or ys i (read past)) → map read (items_of s) ≡ ys
   made_reads read ys long each = ext_get_or (read past) (map read (items_of s)) ys (read_long s read ∙ (h.long ∙ long))
       (λ i l. let inside : i < n = omega (arith, read_long s read, h.long) in
       get_or-map read (items_of s) i past ∙ (ap read (get_or-take s.len s.items i past (omega (arith, h.long))) ∙ each i _ inside (h.each i inside)))
 
+  pub made_is : (ys : List X) → n ≡ length ys → ((i : ℕ) (x : X) → i < n → Makes i (Ok x) → x ≡ get_or ys i past) → items_of s ≡ ys
+  made_is ys long each = sym (map-id (items_of s)) ∙ made_reads (λ x. x) ys long each
+
 -- the first symbol that is refused, and the row of a rule whose symbols are read
 module _ {Makes : ℕ → Result ℕ Fault → Type 0} {n : ℕ} (g : Grammar) (r : ℕ) where
-  pub symbols_refused : {f : Fault} → FirstRefused Makes n f → n ≡ size g r → ((i x : ℕ) → i < n → Makes i (Ok x) → Known g (symbol g r i)) → ((i : ℕ) (h : Fault) → i < n → Makes i (Err h) → (h ≡ UnknownSymbol r (i + 1)) × (Known g (symbol g r i) → ⊥)) → SymbolFault g r (rule g.rules r) f
-  symbols_refused h n ok err =
+  pub rule_refused : {f : Fault} → FirstRefused Makes n f → Part g (left g r) → n ≡ size g r → 1 ≤ n → n ≤ 6
+      → ((i x : ℕ) → i < n → Makes i (Ok x) → Known g (symbol g r i))
+      → ((i : ℕ) (h : Fault) → i < n → Makes i (Err h) → (h ≡ UnknownSymbol r (i + 1)) × (Known g (symbol g r i) → ⊥))
+      → RuleRefused g r (rule g.rules r) f
+  rule_refused h part long some few ok err =
       let no = err h.at _ h.inside h.refused in
-      rw no.0 (SymbolFault.unknown h.at (record { inside = omega arith; before = λ e l. let x = h.before e l in ok e x.0 (omega arith) x.1; unknown = no.1 }))
+      rw no.0 (RuleRefused.symbol h.at part (omega arith) (omega arith) (record { inside = omega arith; before = λ e l. let x = h.before e l in ok e x.0 (omega arith) x.1; unknown = no.1 }))
 
   pub rule_read : (w : RuleRow) → Made Makes 0 n w.body → ((i x : ℕ) → i < n → Makes i (Ok x) → (x ≡ symbol g r i) × Known g (symbol g r i)) → Part g (left g r) → w.left ≡ left g r → n ≡ size g r → 1 ≤ n → n ≤ 6 → (rule_of w ≡ rule g.rules r) × RuleFits g (rule g.rules r)
   rule_read w h ok part l long some few =

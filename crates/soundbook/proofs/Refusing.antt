@@ -3,7 +3,7 @@ use Rattle.std.proofs.Common.{◌≡◌, ℕ, ◌+◌, sym, refl, ap, ◌∙◌,
 use Rattle.language.specs.Book.{Grammar, Meaning, Rule, rule}
 use Rattle.language.specs.Sound.{RuleFits, WellFormed, Sound}
 use Rattle.language.proofs.Numbers.{neither_lower}
-use Rattle.soundbook.specs.Refusals.{SymbolRefused, SymbolFault, RuleRefused, RulesRefused, KeysRefused, CopyRefused, Lowest, Refused, CheckRefuses}
+use Rattle.soundbook.specs.Refusals.{SymbolRefused, RuleRefused, RulesRefused, KeysRefused, CopyRefused, Lowest, Refused, CheckRefuses}
 use Rattle.rulebook.specs.declared.faults.Fault.{Fault}
 use Rattle.rulebook.specs.declared.faults.Fault.TheVariants.{UnknownSymbol, KeyForm, Unproductive, UnitCycle}
 
@@ -15,38 +15,31 @@ module _ (g : Grammar) (r : ℕ) (w : Rule) where
   place_one : (d e : ℕ) → SymbolRefused g w d → SymbolRefused g w e → e ≡ d
   place_one d e a b = neither_lower e d (λ l. b.unknown (a.before e l)) (λ l. a.unknown (b.before d l))
 
-  symbol_unfit : (f : Fault) → SymbolFault g r w f → RuleFits g w → ⊥
-  symbol_unfit f (SymbolFault.unknown d s) fits = s.unknown (fits.symbols d s.inside)
-
   -- a refused rule does not fit
   rule_unfit : (f : Fault) → RuleRefused g r w f → RuleFits g w → ⊥
   rule_unfit f (RuleRefused.left none) fits = none fits.turns
   rule_unfit f (RuleRefused.empty p e) fits = omega (arith, fits.some_symbols)
   rule_unfit f (RuleRefused.long p l) fits = omega (arith, fits.few_symbols)
-  rule_unfit f (RuleRefused.symbol p low high s) fits = symbol_unfit f s fits
-
-  -- the first refused symbol is one
-  symbol_one : (f h : Fault) → SymbolFault g r w f → SymbolFault g r w h → h ≡ f
-  symbol_one f h (SymbolFault.unknown d a) (SymbolFault.unknown e b) = ap (λ k. UnknownSymbol r (k + 1)) (place_one d e a b)
+  rule_unfit f (RuleRefused.symbol d p low high s) fits = s.unknown (fits.symbols d s.inside)
 
   -- a rule is refused for one reason
   rule_one : (f h : Fault) → RuleRefused g r w f → RuleRefused g r w h → h ≡ f
   rule_one f h (RuleRefused.left none) (RuleRefused.left other) = refl
   rule_one f h (RuleRefused.left none) (RuleRefused.empty p e) = absurd (none p)
   rule_one f h (RuleRefused.left none) (RuleRefused.long p l) = absurd (none p)
-  rule_one f h (RuleRefused.left none) (RuleRefused.symbol p low high s) = absurd (none p)
+  rule_one f h (RuleRefused.left none) (RuleRefused.symbol d p low high s) = absurd (none p)
   rule_one f h (RuleRefused.empty p e) (RuleRefused.left none) = absurd (none p)
   rule_one f h (RuleRefused.empty p e) (RuleRefused.empty q i) = refl
   rule_one f h (RuleRefused.empty p e) (RuleRefused.long q l) = absurd (omega arith)
-  rule_one f h (RuleRefused.empty p e) (RuleRefused.symbol q low high s) = absurd (omega arith)
+  rule_one f h (RuleRefused.empty p i) (RuleRefused.symbol e q low high s) = absurd (omega arith)
   rule_one f h (RuleRefused.long p l) (RuleRefused.left none) = absurd (none p)
   rule_one f h (RuleRefused.long p l) (RuleRefused.empty q e) = absurd (omega arith)
   rule_one f h (RuleRefused.long p l) (RuleRefused.long q i) = refl
-  rule_one f h (RuleRefused.long p l) (RuleRefused.symbol q low high s) = absurd (omega arith)
-  rule_one f h (RuleRefused.symbol p low high s) (RuleRefused.left none) = absurd (none p)
-  rule_one f h (RuleRefused.symbol p low high s) (RuleRefused.empty q e) = absurd (omega arith)
-  rule_one f h (RuleRefused.symbol p low high s) (RuleRefused.long q l) = absurd (omega arith)
-  rule_one f h (RuleRefused.symbol p low high s) (RuleRefused.symbol q least most t) = symbol_one f h s t
+  rule_one f h (RuleRefused.long p l) (RuleRefused.symbol e q low high s) = absurd (omega arith)
+  rule_one f h (RuleRefused.symbol d p low high s) (RuleRefused.left none) = absurd (none p)
+  rule_one f h (RuleRefused.symbol d p low high s) (RuleRefused.empty q e) = absurd (omega arith)
+  rule_one f h (RuleRefused.symbol d p low high s) (RuleRefused.long q l) = absurd (omega arith)
+  rule_one f h (RuleRefused.symbol d p low high s) (RuleRefused.symbol e q least most t) = ap (λ k. UnknownSymbol r (k + 1)) (place_one d e s t)
 
 -- the first refused rule is one, and the first refused key
 rules_one : (g : Grammar) (f h : Fault) → RulesRefused g f → RulesRefused g h → h ≡ f

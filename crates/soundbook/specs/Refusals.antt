@@ -12,16 +12,12 @@ pub record SymbolRefused (g : Grammar) (w : Rule) (d : ℕ) : Type 0 where
   pub before : (e : ℕ) → e < d → Part g (slice_index w.body e) ⊎ Key g (slice_index w.body e)
   pub unknown : (Part g (slice_index w.body d) ⊎ Key g (slice_index w.body d)) → ⊥
 
--- the refusal of that symbol
-pub data SymbolFault (g : Grammar) (r : ℕ) (w : Rule) : Fault → Type 0 where
-  unknown : (d : ℕ) → SymbolRefused g w d → SymbolFault g r w (UnknownSymbol r (d + 1))
-
 -- rule r, which is w, is refused
 pub data RuleRefused (g : Grammar) (r : ℕ) (w : Rule) : Fault → Type 0 where
   left : (Part g w.head → ⊥) → RuleRefused g r w (LeftSide r)
   empty : Part g w.head → length w.body ≡ 0 → RuleRefused g r w (EmptyRule r)
   long : Part g w.head → 6 < length w.body → RuleRefused g r w (LongRule r)
-  symbol : {f : Fault} → Part g w.head → 1 ≤ length w.body → length w.body ≤ 6 → SymbolFault g r w f → RuleRefused g r w f
+  symbol : (d : ℕ) → Part g w.head → 1 ≤ length w.body → length w.body ≤ 6 → SymbolRefused g w d → RuleRefused g r w (UnknownSymbol r (d + 1))
 
 -- the rule at this number is the first that is refused
 pub record RulesRefused (g : Grammar) (f : Fault) : Type 0 where

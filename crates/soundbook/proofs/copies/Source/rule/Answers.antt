@@ -1,7 +1,7 @@
 use Rattle.std.proofs.Common.{rules, sym, ◌∙◌, arith}
 use Rattle.std.proofs.lemmas.Result.{err_from_is_err_and}
 use Rattle.soundbook.specs.Refusals.{RuleRefused}
-use Rattle.soundbook.proofs.Copying.{is_part, not_part, symbols_refused, rule_read}
+use Rattle.soundbook.proofs.Copying.{is_part, not_part, rule_refused, rule_read}
 use Rattle.soundbook.proofs.copies.Source.rule.Goals as goal
 
 pub returns-then-not-is_part : goal.returns-then-not-is_part
@@ -16,7 +16,8 @@ returns-then-size-gt6 g c = rw c.from-number.ensures (RuleRefused.long (is_part 
 pub returns-in_err-body : goal.returns-in_err-body
 returns-in_err-body g c =
     let p = err_from_is_err_and c.from_residual.result c.from_residual.ensures.1 in
-    rw (p.1, p.2) (RuleRefused.symbol (is_part c.is_part.ensures c.if-not-is_part.false c.left-left.ensures) (omega (arith, c.size-size.ensures)) (omega (arith, c.size-size.ensures)) (symbols_refused _ _ c.in_err-body.ensures c.size-size.ensures (λ i x l r. search rules) (λ i f l r. search rules)))
+    rw (p.1, p.2) (rule_refused _ _ c.in_err-body.ensures (is_part c.is_part.ensures c.if-not-is_part.false c.left-left.ensures) c.size-size.ensures (omega arith) (omega arith)
+    (λ i x l r. search rules) (λ i f l r. search rules))
 
 pub returns : goal.returns
 returns g c =
