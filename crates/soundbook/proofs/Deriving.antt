@@ -1,8 +1,11 @@
 -- The sets that are computed by rounds over the rules are the least sets.
-use Rattle.std.proofs.Common.{◌≡◌, ℕ, ◌+◌, ◌<◌, ◌≤◌, true, false, ◌||◌, IsTrue, ◌↔◌, ap, ◌∙◌, subst, inl, inr, ⊎_elim, arith}
+use Rattle.std.proofs.Common.{◌≡◌, ℕ, ◌+◌, ◌<◌, ◌≤◌, true, false, ◌||◌, ◌-◌, ◌++◌, [], ◌∷◌, List, length, get_or, refl, sym, IsTrue, ◌↔◌, ap, ◌∙◌, subst, inl, inr, ⊎_elim, arith}
 use mathlib.Core.Bool.{Bool-set}
 use mathlib.Core.Logic.{∥∥₁_elim}
 use native.Mathlib.Bridge.{le_prop}
+use Rattle.std.proofs.lemmas.List.FromFn.{length-range_with_len, get_or-range_with_len}
+use Rattle.std.proofs.lemmas.List.{length_push, get_or_append_left, get_or_push}
+use Rattle.std.specs.List.{range_with_len}
 use Rattle.std.proofs.lemmas.Bool.{and_from, and_parts, both_ways, cases_lt, le-leb, leb-true}
 use Rattle.language.specs.Book.{Meaning, Key, Numbered, left, size, symbol}
 use Rattle.language.specs.Chart.{Corner, self, down}
@@ -54,20 +57,31 @@ few_keys m h = ∥∥₁_elim h le_prop (λ w. w.counts.few_keys)
 none_held : (s : SymbolSet) → s.mask ≡ 0 → (c : ℕ) → has s c ≡ false
 none_held s none c = ap (λ m. holds m c) none ∙ holds_none c
 
--- the set holds the key numbers below n and nothing else
-abbrev pub KeysBelow : SymbolSet → ℕ → Type 0
-KeysBelow s n = (c : ℕ) → IsTrue (has s c) ↔ ((33 ≤ c) × (c < n))
+-- the set holds the symbols of a list, and nothing else
+abbrev pub Listed : List ℕ → SymbolSet → Type 0
+Listed ys s = (c : ℕ) → IsTrue (has s c) ↔ ((symbolic c ≡ true) × ((k : ℕ) × (k < length ys) × (get_or ys k 0 ≡ c)))
 
-pub keys_none : (s : SymbolSet) → s.mask ≡ 0 → KeysBelow s 33
-keys_none s none c = (λ h. absurd (both_ways (has s c) (none_held s none c) h), λ h. absurd (omega arith))
+pub listed_none : (s : SymbolSet) → s.mask ≡ 0 → Listed [] s
+listed_none s none c = (λ h. absurd (both_ways (has s c) (none_held s none c) h), λ h. absurd (omega (arith, h.1.1)))
 
-pub keys_more : (s t : SymbolSet) (n : ℕ) → 33 ≤ n → n ≤ 64 → KeysBelow s n → ((c : ℕ) → has t c ≡ (is_symbol n c || has s c)) → KeysBelow t (n + 1)
-keys_more s t n low few h with c = (
-  λ held. ⊎_elim (λ e. omega arith) (λ e. let k = (h c).0 e in (k.0, omega (arith, k.1))) (with_only s t n with c held),
+pub listed_more : (ys : List ℕ) (s t : SymbolSet) (x : ℕ) → Listed ys s → ((c : ℕ) → has t c ≡ (is_symbol x c || has s c)) → Listed (ys ++ (x ∷ [])) t
+listed_more ys s t x h with c = (
+  λ held. let fits = held_fits t c held in (
+    symbol_fits c fits.0 fits.1,
+    ⊎_elim (λ e. (length ys, omega (arith, length_push ys x), get_or_push ys x 0 (length ys) refl ∙ e))
+        (λ e. let k = ((h c).0 e).1 in (k.0, omega (arith, length_push ys x, k.1), get_or_append_left ys (x ∷ []) 0 k.0 k.1 ∙ k.2)) (with_only s t x with c held),
+  ),
   λ k. ⊎_elim
-      (λ l. with_keeps s t n with c ((h c).1 (k.0, l)))
-      (λ l. let last : n ≡ c = omega arith in subst (λ x. has t x ≡ true) last (with_adds s t n with (symbol_fits n (omega arith) (omega arith))))
-      (cases_lt c n),
+      (λ l. with_keeps s t x with c ((h c).1 (k.0, (k.1.0, l, sym (get_or_append_left ys (x ∷ []) 0 k.1.0 l) ∙ k.1.2))))
+      (λ l. let last : x ≡ c = sym (get_or_push ys x 0 k.1.0 (omega (arith, length_push ys x, k.1.1))) ∙ k.1.2 in subst (λ y. has t y ≡ true) last (with_adds s t x with (subst (λ y. symbolic y ≡ true) (sym last) k.0)))
+      (cases_lt k.1.0 (length ys)),
+)
+
+-- the numbers of n keys
+pub listed_keys : (s : SymbolSet) (n : ℕ) → n ≤ 32 → Listed (range_with_len 33 n) s → (c : ℕ) → IsTrue (has s c) ↔ ((33 ≤ c) × (c ≤ 32 + n))
+listed_keys s n few h c = (
+  λ held. let k = ((h c).0 held).1 in let read = get_or-range_with_len 33 n k.0 0 (omega (arith, length-range_with_len 33 n, k.1)) in (omega (arith, read, k.2), omega (arith, read, k.2, k.1, length-range_with_len 33 n)),
+  λ k. (h c).1 (symbol_fits c (omega (arith, k.0)) (omega (arith, k.1)), (c - 33, omega (arith, length-range_with_len 33 n, k.0, k.1), omega (arith, get_or-range_with_len 33 n (c - 33) 0 (omega (arith, k.0, k.1)), k.0))),
 )
 
 -- a symbol of a well-formed book is one that a set can hold

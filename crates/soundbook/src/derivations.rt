@@ -87,11 +87,7 @@ impl FormedTable {
     fn keys_only(&self) -> SymbolSet
         ensures { (c : ℕ) → IsTrue (has result c) ↔ ((33 ≤ c) × (c ≤ 32 + (meaning_of self.now.table).grammar.keys)) }
     {
-        let mut set = SymbolSet::empty();
-        for key in 33..33 + self.table.keys() {
-            set = set.with(key);
-        }
-        set
+        (33..33 + self.table.keys()).fold(SymbolSet::empty(), |set, key| set.with(key))
     }
 
     // The lowest part that cannot be turned into keys alone.
