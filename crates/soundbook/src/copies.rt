@@ -14,7 +14,7 @@ use super::shorts::Short;
 use super::tables::Table;
 use rulebook::{Book, Fault, KeyKind};
 
-// Items that are made one by one, or the first refusal of one.
+// Items that are made one by one, or the first refusal of one; the library's array::try_from_fn does not say that it is the first.
 fn filled<T: Copy, E, const N: usize, F: Fn(u16) -> Result<T, E>>(
     blank: T,
     count: u16,

@@ -98,6 +98,7 @@ const WORKS: TableOf<5, 5> = TableOf {
 #[derive(Clone, Copy)]
 pub struct WorksBook;
 
+// Each question is passed on to the table, since no derive does that.
 #[tactic(auto, unfolding(crate::specs::Tables::meaning_of))]
 impl Book for WorksBook {
     ghost meaning = { λ _. works };
