@@ -52,18 +52,23 @@ pub(super) fn is_blank(columns: &[u8]) -> bool
 fn fits(number: u16, columns: usize) -> bool
     ensures { IsTrue result ↔ ((1 ≤ columns) × (number < 10 ^ columns)) }
 {
+    // `as`: no From leads from u32 to usize.
     (number.max(1).ilog10() as usize) < columns
+}
+
+// The last figure of a number.
+fn last_figure(number: u16) -> u8
+    ensures { result ≡ 48 + number % 10 }
+{
+    // `as`: below 10 it loses nothing, as is proved, and a `try_from` would have to be unwrapped.
+    b'0' + (number % 10) as u8
 }
 
 // The column up to which the number is this: blank before the first figure.
 fn mark(up_to: u16) -> u8
     ensures { result ≡ mark_of up_to }
 {
-    if up_to == 0 {
-        b' '
-    } else {
-        b'0' + (up_to % 10) as u8
-    }
+    if up_to == 0 { b' ' } else { last_figure(up_to) }
 }
 
 // Sets a number right-justified into the columns; one with more figures than columns is refused, and the columns stay.
@@ -76,7 +81,7 @@ pub fn set_right(columns: &mut [u8], number: u16) -> Result<(), TooWide>
         return Err(TooWide);
     }
     let last = columns.len() - 1;
-    columns[last] = b'0' + (number % 10) as u8;
+    columns[last] = last_figure(number);
     let mut rest = number / 10;
     // By index: after `iter_mut` a proof does not know what the columns hold.
     for i in (0..last).rev() {

@@ -14,6 +14,7 @@ fn columns(text: &[u8], from: usize, count: usize) -> &[u8]
 pub(super) fn columns_of(text: &[u8], line: u32) -> &[u8]
     ensures { result.now ≡ take 34 (drop (34 * line) text.now) }
 {
+    // `as`: no From leads from u32 to usize.
     columns(text, 34 * line as usize, 34)
 }
 
@@ -21,6 +22,7 @@ pub(super) fn columns_of(text: &[u8], line: u32) -> &[u8]
 pub(super) fn middle(text: &[u8], line: u32) -> &[u8]
     ensures { result.now ≡ middle_of text.now line }
 {
+    // `as`: no From leads from u32 to usize.
     columns(text, 34 * line as usize + 1, 32)
 }
 

@@ -23,6 +23,7 @@ struct Line<'t> {
 fn told_number(line: u32) -> usize
     ensures { result ≡ line + 1 }
 {
+    // `as`: no From leads from u32 to usize.
     line as usize + 1
 }
 
@@ -147,7 +148,7 @@ fn whole(text: &[u8]) -> Result<(), Fault>
     }
 }
 
-// The first line.
+// The first line. Each kind of line has its function: the letter is part of the pattern, and the fields differ.
 fn head_line(text: &[u8]) -> Result<(), Fault>
     ensures { Asked (head_questions text.now) result }
 {
@@ -189,7 +190,7 @@ fn counted(book: &TextBook) -> Result<(), Fault>
     }
 }
 
-// The lines of the rules.
+// The lines of the rules. The lines of the keys have a function of their own, since a key is read by its place as well.
 fn rule_lines(book: &TextBook) -> Result<(), Fault>
     ensures { Asked (flat_map (rule_questions book.now.text.now) (range_with_len 1 (number_at book.now.text.now 0 3))) result }
 {

@@ -32,7 +32,7 @@ impl TextBook<'_> {
         }
     }
 
-    // The line of a rule.
+    // The line of a rule. One function for rules and keys would take four numbers to save two lines.
     #[tactic(auto, using(crate::proofs::Meant::text_rules))]
     fn rule_line(&self, rule: u16) -> Option<u32>
         ensures { Lined rule 1 (number_at self.now.text.now 0 3) 1 result }
@@ -103,6 +103,7 @@ impl Book for TextBook<'_> {
     }
 
     fn spelling_len(&self, key: u16) -> u16 {
+        // `as`: at most 24, as is proved.
         self.spelling(key).len() as u16
     }
 

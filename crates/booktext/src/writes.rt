@@ -65,6 +65,7 @@ fn rule_line<B: Book>(book: &B, rule: u16) -> [u8; 34]
     let mut line = blank_line(b'R');
     set_field(&mut line, 0, book.left(rule));
     set_field(&mut line, 1, size);
+    // By place: a book tells the symbols of a rule one at a time.
     for at in 0..size.min(6) {
         set_field(&mut line, 2 + at, book.symbol(rule, at));
     }
@@ -100,6 +101,7 @@ fn set_lines<B: Book, F: Fn(&B, u16) -> [u8; 34]>(
         → Makes (λ n l. (b : _) × F.post line b n l × (b.now ≡ book.now)) f
         → space.new ≡ put space.old (34 * top) (flat_map f (range_with_len numbers.start (numbers.end - numbers.start))) }
 {
+    // By number, from which both the line and its place in the space follow.
     for number in numbers.start..numbers.end {
         let place = top + usize::from(number - numbers.start);
         put(space, 34 * place, &line(book, number));

@@ -36,12 +36,6 @@ form_past fs c = ⊎_elim
     (λ l. cond-false (leb 33 c) _ noform (lt-leb 33 c l))
     (λ l. cond-true (leb 33 c) _ noform (le-leb 33 c (omega arith)) ∙ get_or_past fs (c - 33) noform (omega arith))
 
--- places that are told from a list are that list
-pub places_of : (xs ys : List ℕ) (n : ℕ) → n ≡ length ys → ((i : ℕ) → i < n → get_or xs i 0 ≡ get_or ys i 0) → map (λ j. get_or xs j 0) (range_with_len 0 n) ≡ ys
-places_of xs ys n e same =
-    let long = length-map-range_with_len (λ j. get_or xs j 0) 0 n in
-    ext_get_or 0 (map (λ j. get_or xs j 0) (range_with_len 0 n)) ys (long ∙ e) (λ i l. place_inside (λ j. get_or xs j 0) n i 0 (omega (arith, long)) ∙ same i (omega (arith, long)))
-
 -- rule r of n rules that are told by f
 module _ (n : ℕ) (f : ℕ → Rule) where
   pub rule_inside : (i r : ℕ) → i < n → 1 + i ≡ r → rule (map f (range_with_len 0 n)) r ≡ f i

@@ -36,7 +36,7 @@ pub trait Book {
     fn symbol(&self, rule: u16, at: u16) -> u16
         ensures { result ≡ symbol_of (meaning self.now).grammar rule at };
 
-    // The kind of a key; keys count from 33.
+    // The kind of a key; keys count from 33. A number, since a book that is not checked may tell any.
     fn kind(&self, key: u16) -> u16
         ensures { result ≡ kind_of (meaning self.now).forms key };
 

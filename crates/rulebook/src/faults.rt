@@ -43,7 +43,7 @@ pub enum Fault {
 }
 
 impl Fault {
-    // The number by which the refusal is known.
+    // The number by which the refusal is known: no enum, since it is what programs print.
     pub fn number(&self) -> u16
         ensures { result ≡ number_of self.now }
     {
@@ -81,6 +81,7 @@ impl Fault {
     pub fn layer(&self) -> u16
         ensures { result ≡ layer_of self.now }
     {
+        // By ranges of numbers: a list of all the variants says the same at greater length.
         match self.number() {
             1..=6 | 41..=43 => 1,
             11..=18 => 2,

@@ -44,7 +44,7 @@ impl SymbolSet {
         mask_holds(self.mask, symbol)
     }
 
-    // Whether two sets hold the same symbols.
+    // Whether two sets hold the same symbols: the derived equality, said of the masks.
     pub fn same(&self, other: &SymbolSet) -> bool
         ensures { result ≡ (self.now.mask == other.now.mask) }
     {

@@ -4,7 +4,8 @@ ghost use Rattle.std.specs.Prelude.{◌≡◌, [], ◌∷◌, ◌-◌, ◌≤◌
 use rulebook::item_or;
 use std::alloc::AllocError;
 
-// At most N items: the first ones, as many as the length; what stands past them is not read.
+// At most N items: the first ones, as many as the length; what stands past them is not read. An array, and no Vec: the
+// memory of a book is fixed.
 pub struct Short<T, const N: usize> {
     pub len: u16,
     pub items: [T; N],

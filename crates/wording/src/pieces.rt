@@ -8,6 +8,7 @@ pub enum Piece<'t> {
     Name(&'t [u8]),
     // with its value
     Figure(&'t [u8], u16),
+    // no word is left; a piece and no missing one, since it is asked and matched as the others are
     End,
 }
 

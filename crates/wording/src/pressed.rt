@@ -32,6 +32,7 @@ impl Matched {
     pub fn of<W: Word>(word: &W) -> Matched
         ensures { (c : ℕ) → has result.keys c ≡ word_of (W.tells word.now) c }
     {
+        // A loop: a fold over the keys needs a lemma about lists, and is no plainer.
         let mut keys = SymbolSet::empty();
         for key in 33..=64 {
             if word.matches(key) {
