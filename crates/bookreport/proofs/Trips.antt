@@ -4,7 +4,7 @@ use Rattle.rulebook.specs.declared.faults.Fault.{Fault}
 use Rattle.booktext.proofs.Again.{fitting, text_again}
 use Rattle.booktext.proofs.Back.{back_again}
 use Rattle.booktext.proofs.Formed.{written_form}
-use Rattle.bookreport.specs.Findings.{RoundTrips, TextRefused, RefusedAlone, Told, ToldFully}
+use Rattle.bookreport.specs.Findings.{RoundTrips, TextRefused, RefusedAlone}
 
 pub round_trips : RoundTrips
 round_trips = record {
@@ -17,8 +17,3 @@ round_trips = record {
 pub refused_alone : (t : List ℕ) (f : Fault) → RefusedAlone t f → TextRefused t f
 refused_alone t f (inl first_no) = inl first_no
 refused_alone t f (inr of_book) = inr (of_book.0, of_book.1.first)
-
--- what is said in full is said
-pub told_fully : (t s : List ℕ) → ToldFully t s → Told t s
-told_fully t s (inl said) = inl (said.0, (said.1.0, said.1.1, said.1.3))
-told_fully t s (inr refused) = inr (refused.0, refused_alone t refused.0 refused.1)

@@ -17,7 +17,7 @@ pub struct Findings {
     pub start: u16,
     pub rules: u16,
     pub symbols: usize,
-    // written back byte for byte
+    // written back byte for byte; proved always to say so, and kept for those who read it
     pub same: bool,
 }
 
@@ -25,6 +25,7 @@ pub struct Findings {
 fn symbols_of<B: Book>(book: &B) -> usize
     ensures { result ≡ symbols_in (B.meaning book.now).grammar.rules }
 {
+    // From 0, since the library's lemmas on sums are about ranges that leave their end out.
     (0..book.rules())
         .map(|place| usize::from(book.size(place + 1)))
         .sum()

@@ -8,6 +8,7 @@ use std::fs;
 // More samples than there ever are.
 const MOST: u16 = 999;
 
+// The loop stands in wordsamples too: one for both would have to ask of its caller that the closure may be called.
 fn main(rt: HostRuntime) -> anyhow::Result<()> {
     for number in 1..=MOST {
         let name = format!(in rt.alloc(); "{number:03}.book")?;

@@ -7,7 +7,7 @@ use Rattle.std.proofs.lemmas.Bool.Decides.{not_from_Decides}
 use Rattle.rulebook.specs.declared.faults.Fault.{Fault}
 use Rattle.rulebook.specs.declared.faults.Fault.TheVariants.{FieldForm}
 use Rattle.booktext.specs.Columns.{Blank, shown, value}
-use Rattle.booktext.specs.Form.{Question, asks_blank, Holds, fault_of, AllYes, FirstNo, Asked}
+use Rattle.booktext.specs.Form.{Question, asks_blank, AllYes, FirstNo, Asked}
 use Rattle.booktext.proofs.Shown.{value_read}
 
 pub yes_append : (p q : List Question) → AllYes p → AllYes q → AllYes (p ++ q)
@@ -29,13 +29,6 @@ no_early (x ∷ p) q e f = ⊎_elim (λ here. inl here) (λ later. inr (later.0,
 pub no_late : (p q : List Question) (e : Fault) → AllYes p → FirstNo q e → FirstNo (p ++ q) e
 no_late [] q e a f = f
 no_late (x ∷ p) q e a f = inr (a.0, no_late p q e a.1 f)
-
--- a single question
-pub yes_one : (q : Question) → Holds q → AllYes (q ∷ [])
-yes_one q h = (h, tt)
-
-pub no_one : (q : Question) (e : Fault) → (Holds q → ⊥) → e ≡ fault_of q → FirstNo (q ∷ []) e
-no_one q e h is = inl (h, is)
 
 -- what a refusal that is handed on answers
 pub asked_err : {X : Type 0} (qs : List Question) (r : Result X Fault) (e : Fault) → IsErrAnd r (λ y. y ≡ e) → FirstNo qs e → Asked qs r
@@ -77,9 +70,6 @@ module _ (f : ℕ → List Question) where
 
   pub loop_stop : (a z j : ℕ) (e : Fault) → a ≤ j → j < z → AllYes (flat_map f (range_with_len a (j - a))) → FirstNo (f j) e → FirstNo (flat_map f (range_with_len a (z - a))) e
   loop_stop a z j e l h p q = no_at a (j - a) (z - a) j e (omega arith) (omega arith) p q
-
-  pub loop_end : (a z j : ℕ) → j - a ≡ z - a → AllYes (flat_map f (range_with_len a (j - a))) → AllYes (flat_map f (range_with_len a (z - a)))
-  loop_end a z j e p = subst (λ n. AllYes (flat_map f (range_with_len a n))) e p
 
 -- a field that was read
 pub number_made : (g f : List ℕ) (o : Option ℕ) (e : Fault) → g ≡ f → options.MatchOption o ((v : ℕ) → v < 10000 → shown 4 v ≡ g → ⊥) (λ v. (v < 10000) × (shown 4 v ≡ g)) → IfOk (ok_or o e) (λ v. v ≡ value f)

@@ -83,7 +83,7 @@ pub fn set_right(columns: &mut [u8], number: u16) -> Result<(), TooWide>
     let last = columns.len() - 1;
     columns[last] = last_figure(number);
     let mut rest = number / 10;
-    // By index: after `iter_mut` a proof does not know what the columns hold.
+    // By index: after `iter_mut` and `rev` a proof does not know what the columns hold.
     for i in (0..last).rev() {
         columns[i] = mark(rest);
         rest /= 10;

@@ -4,7 +4,7 @@ ghost use Rattle.std.specs.List.{range_with_len, flat_map};
 ghost use Rattle.rulebook.specs.Fault.{layer_of};
 ghost use Rattle.booktext.specs.Columns.{value};
 ghost use Rattle.booktext.specs.Text.{field_of, number_at};
-ghost use Rattle.booktext.specs.Form.{Asked, Sized, Spelling, asks_length, asks_mark, asks_number, asks_lines, numbers, blanks, rule_fields, key_fields, head_questions, rule_questions, key_questions, lines_of, questions};
+ghost use Rattle.booktext.specs.Form.{Asked, Sized, Spelling, asks_length, asks_mark, asks_number, asks_blank, asks_lines, numbers, blanks, rule_fields, key_fields, head_questions, rule_questions, key_questions, lines_of, questions};
 
 use super::fields::{is_blank, number};
 use super::lines::{columns_of, field, spelled, spelling_field};
@@ -86,14 +86,23 @@ impl<'t> Line<'t> {
         Ok(())
     }
 
+    // A field that must be blank.
+    fn blank_at(&self, place: u16) -> Result<(), Fault>
+        ensures { Asked (asks_blank self.now.number place (field_of self.now.middle.now place) ∷ []) result }
+    {
+        if is_blank(field(self.middle, place)) {
+            Ok(())
+        } else {
+            Err(self.field_form(place))
+        }
+    }
+
     // The fields from one on must be blank.
     fn blanks(&self, from: u16) -> Result<(), Fault>
         ensures { Asked (blanks self.now.number self.now.middle.now from (8 - from)) result }
     {
         for place in from..8 {
-            if !is_blank(field(self.middle, place)) {
-                return Err(self.field_form(place));
-            }
+            self.blank_at(place)?;
         }
         Ok(())
     }
@@ -137,7 +146,7 @@ impl<'t> Line<'t> {
     }
 }
 
-// Whether the length is a multiple of 34 in bounds.
+// The length must be a multiple of 34 in bounds.
 fn whole(text: &[u8]) -> Result<(), Fault>
     ensures { Asked (asks_length (length text.now) ∷ []) result }
 {
@@ -179,7 +188,7 @@ fn key_line(text: &[u8], rules: u16, place: u16) -> Result<(), Fault>
     }
 }
 
-// Whether the text has a line for each rule and key after the first.
+// The text must have a line for each rule and key after the first.
 fn counted(book: &TextBook) -> Result<(), Fault>
     ensures { Asked (asks_lines (length book.now.text.now) (lines_of book.now.text.now) ∷ []) result }
 {

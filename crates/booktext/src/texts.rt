@@ -25,7 +25,7 @@ impl TextBook<'_> {
     fn number_on(&self, line: Option<u32>, place: u16) -> u16
         ensures { result ≡ number_on self.now.text.now line place }
     {
-        // Not `map_or`: of what a closure over `self` returns, a proof learns nothing.
+        // Not `map_or`: tried, and the contract that is read off its closure says nothing of the number.
         match line {
             Some(line) => self.number_at(line, place),
             None => 0,

@@ -4,6 +4,8 @@ ghost use Rattle.rulebook.specs.Sets.{holds, has, is_symbol};
 
 use super::books::place_of;
 
+// The two questions of a mask stand apart from the set's methods, which then prove with no file of their own.
+
 // Whether a mask holds a symbol.
 fn mask_holds(mask: u64, symbol: u16) -> bool
     ensures { result ≡ holds mask symbol }

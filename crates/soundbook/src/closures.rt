@@ -6,7 +6,8 @@ ghost use Rattle.soundbook.specs.Closures.{Grown, Closed};
 
 use rulebook::SymbolSet;
 
-// A way in which rules add symbols to a set: a rule adds one symbol to a set that lets it.
+// A way in which rules add symbols to a set: a rule adds one symbol to a set that lets it. Each way tells whose rules they
+// are and how many, though all do so alike: the law below speaks of them.
 pub(super) trait Growth {
     // whose rules
     ghost grammar: { Self → Grammar };

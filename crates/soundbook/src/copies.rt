@@ -14,7 +14,8 @@ use super::shorts::Short;
 use super::tables::Table;
 use rulebook::{Book, Fault, KeyKind};
 
-// Items that are made one by one, or the first refusal of one; the library's array::try_from_fn does not say that it is the first.
+// Items that are made one by one, or the first refusal of one. The library's array::try_from_fn does not say that it is
+// the first.
 fn filled<T: Copy, E, const N: usize, F: Fn(u16) -> Result<T, E>>(
     blank: T,
     count: u16,
@@ -25,7 +26,7 @@ fn filled<T: Copy, E, const N: usize, F: Fn(u16) -> Result<T, E>>(
     ensures { MatchResult result (Made (F.post item) blank count) (FirstRefused (F.post item) count) }
 {
     let mut items = [blank; N];
-    // By place, of which an item is made; after `iter_mut` a proof does not know what the array holds.
+    // By place, of which an item is made; after `iter_mut` and `take` a proof does not know what the array holds.
     for place in 0..count {
         items[usize::from(place)] = item(place)?;
     }

@@ -96,7 +96,7 @@ impl FormedTable {
     {
         let growth = Productivity { table: &self.table };
         let set = closure(&growth, self.keys_only());
-        (1..=self.table.parts()).find(|part| !set.contains(*part))
+        (1..1 + self.table.parts()).find(|part| !set.contains(*part))
     }
 
     // Whether a part is turned into itself alone.
@@ -114,6 +114,6 @@ impl FormedTable {
     pub(super) fn cyclic(&self) -> Option<u16>
         ensures { MatchOption result ((X : ℕ) → Part (meaning_of self.now.table).grammar X → UnitPath (meaning_of self.now.table).grammar X X → ⊥) (λ p. Lowest (meaning_of self.now.table).grammar (λ X. UnitPath (meaning_of self.now.table).grammar X X → ⊥) p) }
     {
-        (1..=self.table.parts()).find(|part| self.is_cyclic(*part))
+        (1..1 + self.table.parts()).find(|part| self.is_cyclic(*part))
     }
 }

@@ -10,6 +10,7 @@ pub struct RuleRow {
 }
 
 impl RuleRow {
+    // no rule
     pub const BLANK: RuleRow = RuleRow {
         left: 0,
         body: Short {
@@ -27,6 +28,7 @@ pub struct KeyRow {
 }
 
 impl KeyRow {
+    // no key
     pub const BLANK: KeyRow = KeyRow {
         kind: KeyKind::Full,
         spelling: Short {

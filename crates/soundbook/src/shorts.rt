@@ -48,7 +48,7 @@ impl<T: Copy, const N: usize> Short<T, N> {
     pub(super) fn numbered(&self, number: u16, first: u16, past: T) -> T
         ensures { result ≡ cond (nat_le first number) (slice_index_or (take self.now.len self.now.items) (number - first) past) past }
     {
-        // A closure for map_or would need clauses of its own.
+        // Not `map_or`: what its closure returns is not read off its body, for it is generic.
         match number.checked_sub(first) {
             Some(place) => self.item(place, past),
             None => past,

@@ -6,6 +6,7 @@ use super::shorts::Short;
 use super::tables::TableOf;
 use rulebook::{Book, KeyKind};
 
+// Each length is written beside its array: a constant may call no function.
 const RULES: [RuleRow; 5] = [
     RuleRow {
         left: 1,
@@ -95,6 +96,7 @@ const WORKS: TableOf<5, 5> = TableOf {
     },
 };
 
+// The works book as a make of book.
 #[derive(Clone, Copy)]
 pub struct WorksBook;
 

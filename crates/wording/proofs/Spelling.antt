@@ -29,10 +29,6 @@ module _ (s : List ℕ) (w : KeyForm) where
   pub whole_matches : w.kind ≡ 0 → length s ≡ length w.spelling → Front s w.spelling → NameMatches s w
   whole_matches k l f = NameMatches.whole k (front_whole s w.spelling l f)
 
-  pub whole_front : w.kind ≡ 0 → NameMatches s w → Front s w.spelling
-  whole_front k (NameMatches.whole z e) = ([], e ∙ sym (append-nil s))
-  whole_front k (NameMatches.shortened two l rest e) = absurd (omega arith)
-
   pub short_front : w.kind ≡ 2 → NameMatches s w → Front s w.spelling
   short_front k (NameMatches.whole z e) = absurd (omega arith)
   short_front k (NameMatches.shortened two l rest e) = (rest, e)

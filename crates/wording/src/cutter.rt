@@ -30,6 +30,7 @@ fn run_end<F: Fn(u8) -> bool>(text: &[u8], from: usize, ends: F) -> usize
     requires callable { F.IsAlwaysCallable ends }
     ensures { RunTo (F.post ends) text.now from result }
 {
+    // By place: what is asked for is a place of the whole text.
     (from..text.len())
         .find(|at| ends(text[*at]))
         .unwrap_or(text.len())

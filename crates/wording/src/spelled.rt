@@ -20,7 +20,8 @@ pub struct Spelled<'t, 'b> {
     pub book: &'b SoundBook,
 }
 
-// Whether the spelling of a key begins with a name.
+// Whether the spelling of a key begins with a name. A book and a key travel together here, but no fact joins them that a
+// type could keep.
 fn begins_with<B: Book>(book: &B, key: u16, name: &[u8]) -> bool
     ensures { IsTrue result ↔ (rest : List ℕ) × (spelling_of (B.meaning book.now).forms key ≡ name.now ++ rest) }
 {
