@@ -1,13 +1,11 @@
 -- Questions that are asked one after another.
-use Rattle.std.proofs.Common.{◌≡◌, ℕ, zero, suc, ◌+◌, ◌-◌, ◌*◌, ◌<◌, ◌≤◌, Bool, true, false, List, [], ◌∷◌, ◌++◌, IsErrAnd, IfOk, Some, None, Ok, Err, Decides, Option, Result, sym, ap, ◌∙◌, subst, inl, inr, ⊎_elim, arith}
+use Rattle.std.proofs.Common.{◌≡◌, ℕ, zero, suc, ◌+◌, ◌-◌, ◌<◌, ◌≤◌, List, [], ◌∷◌, ◌++◌, IsErrAnd, IfOk, Some, None, Ok, Err, Option, Result, sym, ap, ◌∙◌, subst, inl, inr, ⊎_elim, arith}
 use Rattle.std.specs.List.{range_with_len, flat_map}
 use Rattle.std.specs.Option.{ok_or}
 use Rattle.std.specs.Option as options
-use Rattle.std.proofs.lemmas.Bool.Decides.{not_from_Decides}
 use Rattle.rulebook.specs.declared.faults.Fault.{Fault}
-use Rattle.rulebook.specs.declared.faults.Fault.TheVariants.{FieldForm}
-use Rattle.booktext.specs.Columns.{Blank, shown, value}
-use Rattle.booktext.specs.Form.{Question, asks_blank, AllYes, FirstNo, Asked}
+use Rattle.booktext.specs.Columns.{shown, value}
+use Rattle.booktext.specs.Form.{Question, AllYes, FirstNo, Asked}
 use Rattle.booktext.proofs.Shown.{value_read}
 
 pub yes_append : (p q : List Question) → AllYes p → AllYes q → AllYes (p ++ q)
@@ -75,11 +73,3 @@ module _ (f : ℕ → List Question) where
 pub number_made : (g f : List ℕ) (o : Option ℕ) (e : Fault) → g ≡ f → options.MatchOption o ((v : ℕ) → v < 10000 → shown 4 v ≡ g → ⊥) (λ v. (v < 10000) × (shown 4 v ≡ g)) → IfOk (ok_or o e) (λ v. v ≡ value f)
 number_made g f None e at h = tt
 number_made g f (Some v) e at h = value_read g (Some v) h ∙ ap value at
-
--- a field that was tried
-module _ (n j : ℕ) (g f : List ℕ) (b : Bool) (at : g ≡ f) (h : Decides b (Blank g)) where
-  pub blank_yes : b ≡ true → AllYes (asks_blank n j f ∷ [])
-  blank_yes is = (subst Blank at (h.0 is), tt)
-
-  pub blank_no : (e : Fault) → e ≡ FieldForm (n + 1) (2 + 4 * j) → b ≡ false → FirstNo (asks_blank n j f ∷ []) e
-  blank_no e form is = inl ((λ y. not_from_Decides b h is (subst Blank (sym at) y)), form)

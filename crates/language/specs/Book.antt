@@ -85,10 +85,6 @@ spelling fs c = (form fs c).spelling
 abbrev pub ruled : ℕ → ℕ → (ℕ → ℕ) → Rule
 ruled h n at = record { head = h; body = map at (range_with_len 0 n) }
 
--- a key spelled by n bytes, told by the byte at each place
-abbrev pub formed : ℕ → ℕ → (ℕ → ℕ) → KeyForm
-formed k n at = record { kind = k; spelling = map at (range_with_len 0 n) }
-
 -- a book of n rules, told by the rule 1 + i and the form of the key 33 + i for each i from 0
 abbrev pub told : (parts keys start n : ℕ) → (ℕ → Rule) → (ℕ → KeyForm) → Meaning
 told parts keys start n rule_at form_at = record {

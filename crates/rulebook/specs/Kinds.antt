@@ -10,6 +10,7 @@ kind_number Full = 0
 kind_number Figure = 1
 kind_number Shortened = 2
 
+-- n is the number of kind k
 abbrev pub IsKindNumber : KeyKind → ℕ → Type 0
 IsKindNumber k n = n ≡ kind_number k
 

@@ -7,6 +7,7 @@ use Rattle.rulebook.specs.declared.faults.Fault.TheVariants.{TextLength, LineMar
 abbrev pub mark_words : ℕ → List ℕ
 mark_words c = (if c == 1 then codes "the letter of the line" else codes "a newline")
 
+-- what went wrong, and where
 abbrev pub sentence_of : Fault → List ℕ
 sentence_of TextLength = codes "the text is empty, too long, or not 34 bytes for each line"
 sentence_of (LineMark l c) = codes "line " ++ decimal l ++ codes ": column " ++ decimal c ++ codes " does not hold " ++ mark_words c

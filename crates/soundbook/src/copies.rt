@@ -26,7 +26,7 @@ fn filled<T: Copy, E, const N: usize, F: Fn(u16) -> Result<T, E>>(
     ensures { MatchResult result (Made (F.post item) blank count) (FirstRefused (F.post item) count) }
 {
     let mut items = [blank; N];
-    // By place, of which an item is made; after `iter_mut` and `take` a proof does not know what the array holds.
+    // By place, of which an item is made; beside an adapter of `iter_mut` a proof does not know what the array holds.
     for place in 0..count {
         items[usize::from(place)] = item(place)?;
     }

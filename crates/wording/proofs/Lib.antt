@@ -2,4 +2,4 @@ mod Collected
 mod Cutting
 mod Decided
 mod Spelling
-pub mod Zipped
+mod Zipped

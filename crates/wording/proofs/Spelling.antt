@@ -1,14 +1,11 @@
 -- Pieces of text compared with the spellings of keys: what the tests say is what is meant.
 use Rattle.std.proofs.Common.{◌≡◌, ℕ, ◌+◌, ◌<◌, ◌≤◌, Bool, true, false, ◌&&◌, eqb, leb, ◌⊎◌, List, [], ◌∷◌, ◌++◌, length, is_some, Some, None, Decides, Option, sym, refl, ◌∙◌, subst, inl, inr, arith, Bor, MatchOption}
-use mathlib.Core.Logic.{∥∥₁_elim}
-use native.Mathlib.Bridge.{le_prop}
 use Rattle.std.proofs.lemmas.List.Prefix.{front_fits}
 use Rattle.std.proofs.lemmas.List.{append-nil, length-append, nil_from_length}
 use Rattle.std.proofs.lemmas.Bool.{false≢true, and_parts, leb-true, le-leb}
 use Rattle.std.proofs.lemmas.Bool.Decides.{Decides-eqb, Decides-and, Decides-or, Decides-like}
 use Rattle.language.specs.Book.{KeyForm, Grammar, Meaning, Key, form, kind}
 use Rattle.language.specs.Machine.{is_key}
-use Rattle.language.specs.Sound.{Sound}
 use Rattle.language.proofs.Tests.{key_test, test_key}
 use Rattle.wording.specs.Matching.{NameMatches, PieceMatches, begins, name_matches, piece_matches}
 use Rattle.wording.specs.Sets.{key_number, word_of}
@@ -83,7 +80,3 @@ module _ (m : Meaning) (few : m.grammar.keys ≤ 32) (c : ℕ) where
   piece_decides (Name b) = key_decides _ _ (name_decides b.now (form m.forms c))
   piece_decides (Figure b v) = key_decides _ _ (Decides-eqb (kind m.forms c) 1)
   piece_decides End = ((λ h. absurd (false≢true (and_parts (key_number c) false h).1)), (λ h. absurd h))
-
--- as a sound book has
-pub few_keys : (m : Meaning) → ∥ Sound m ∥₁ → m.grammar.keys ≤ 32
-few_keys m h = ∥∥₁_elim h le_prop (λ s. s.formed.counts.few_keys)
