@@ -1,2 +1,3 @@
 pub mod Holding
+pub mod Joining
 pub mod Pressed

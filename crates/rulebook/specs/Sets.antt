@@ -18,3 +18,7 @@ has s c = holds s.mask c
 -- c is the symbol x
 abbrev pub is_symbol : ℕ → ℕ → Bool
 is_symbol x c = symbolic c && x == c
+
+-- c is a number that a key can have, 33 to 64
+abbrev pub key_number : ℕ → Bool
+key_number c = nat_le 33 c && nat_le c 64

@@ -1,6 +1,6 @@
 // Sets of symbols.
-ghost use Rattle.std.specs.Prelude.{◌≡◌, ℕ, ◌≤◌, false, ◌||◌, ◌==◌};
-ghost use Rattle.rulebook.specs.Sets.{holds, has, is_symbol};
+ghost use Rattle.std.specs.Prelude.{◌≡◌, ℕ, ◌≤◌, false, ◌||◌, ◌&&◌, ◌==◌, IsTrue, ◌↔◌, count_ones};
+ghost use Rattle.rulebook.specs.Sets.{holds, has, is_symbol, key_number};
 
 use super::books::place_of;
 
@@ -34,10 +34,35 @@ pub struct SymbolSet {
 }
 
 impl SymbolSet {
+    // no symbol
+    pub const EMPTY: SymbolSet = SymbolSet { mask: 0 };
+
     pub fn empty() -> SymbolSet
         ensures { result.mask ≡ 0 }
     {
-        SymbolSet { mask: 0 }
+        SymbolSet::EMPTY
+    }
+
+    // The numbers that a key can have, 33 to 64.
+    pub fn keys() -> SymbolSet
+        ensures { (c : ℕ) → has result c ≡ key_number c }
+    {
+        SymbolSet {
+            mask: u64::MAX << 32,
+        }
+    }
+
+    pub fn is_empty(&self) -> bool
+        ensures { IsTrue result ↔ ((c : ℕ) → has self.now c ≡ false) }
+    {
+        self.mask == 0
+    }
+
+    // How many symbols the set holds.
+    pub fn count(&self) -> u32
+        ensures { result ≡ count_ones self.now.mask }
+    {
+        self.mask.count_ones()
     }
 
     pub fn contains(&self, symbol: u16) -> bool
@@ -60,6 +85,24 @@ impl SymbolSet {
     {
         SymbolSet {
             mask: mask_with(self.mask, symbol),
+        }
+    }
+
+    // The symbols of either set.
+    pub fn union(&self, other: &SymbolSet) -> SymbolSet
+        ensures { (c : ℕ) → has result c ≡ (has self.now c || has other.now c) }
+    {
+        SymbolSet {
+            mask: self.mask | other.mask,
+        }
+    }
+
+    // The symbols of both sets.
+    pub fn common(&self, other: &SymbolSet) -> SymbolSet
+        ensures { (c : ℕ) → has result c ≡ (has self.now c && has other.now c) }
+    {
+        SymbolSet {
+            mask: self.mask & other.mask,
         }
     }
 }

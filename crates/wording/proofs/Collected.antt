@@ -1,10 +1,10 @@
 -- The set of keys that a word matches, collected key by key.
 use Rattle.std.proofs.Common.{◌≡◌, ℕ, Bool, false, ◌&&◌, ltb, leb, sym, ap, ◌∙◌, ⊎_elim}
 use Rattle.std.proofs.lemmas.Bool.{and_left, and_right, cases_lt, le-ltb, lt-leb}
-use Rattle.rulebook.specs.Sets.{holds, has}
+use Rattle.rulebook.specs.Sets.{holds, has, key_number}
 use Rattle.rulebook.specs.declared.sets.SymbolSet.{SymbolSet}
 use Rattle.rulebook.proofs.Holding.{holds_none}
-use Rattle.wording.specs.Sets.{key_number, word_of}
+use Rattle.wording.specs.Sets.{word_of}
 
 -- no key is below 33
 none_below : (f : ℕ → Bool) (c : ℕ) → (ltb c 33 && word_of f c) ≡ false

@@ -8,7 +8,8 @@ use Rattle.language.specs.Book.{KeyForm, Grammar, Meaning, Key, form, kind}
 use Rattle.language.specs.Machine.{is_key}
 use Rattle.language.proofs.Tests.{key_test, test_key}
 use Rattle.wording.specs.Matching.{NameMatches, PieceMatches, begins, name_matches, piece_matches}
-use Rattle.wording.specs.Sets.{key_number, word_of}
+use Rattle.rulebook.specs.Sets.{key_number}
+use Rattle.wording.specs.Sets.{word_of}
 use Rattle.wording.specs.declared.pieces.Piece.{Piece}
 use Rattle.wording.specs.declared.pieces.Piece.TheVariants.{Name, Figure, End}
 

@@ -28,6 +28,18 @@ pub struct Matched {
 }
 
 impl Matched {
+    // no key
+    pub const NONE: Matched = Matched {
+        keys: SymbolSet::EMPTY,
+    };
+
+    // The keys of the set.
+    pub fn keys(&self) -> SymbolSet
+        ensures { result ≡ self.now.keys }
+    {
+        self.keys
+    }
+
     // The set of keys that a word matches.
     pub fn of<W: Word>(word: &W) -> Matched
         ensures { (c : ℕ) → has result.keys c ≡ word_of (W.tells word.now) c }

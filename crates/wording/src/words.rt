@@ -1,6 +1,7 @@
 // What every kind of word answers.
 ghost use Rattle.std.specs.Prelude.{◌≡◌, ℕ, Bool};
-ghost use Rattle.wording.specs.Sets.{key_number, word_of};
+ghost use Rattle.rulebook.specs.Sets.{key_number};
+ghost use Rattle.wording.specs.Sets.{word_of};
 
 // A word means the set of keys that it matches. Its one question refuses and alters nothing.
 pub trait Word {

@@ -7,6 +7,7 @@ use Rattle.language.specs.Words.{only}
 use Rattle.language.specs.Readings.{none, key, part, item}
 use Rattle.language.specs.Drafts.{MatchesLit}
 use Rattle.rulebook.specs.Presses.{PressRefused, PressTaken}
+use Rattle.rulebook.proofs.Pressed.{press_theorem}
 use Rattle.rulebook.specs.declared.faults.Fault.TheVariants.{DarkWord, ChartFull, Unproductive, UnitCycle}
 use Rattle.soundbook.specs.Refusals.{Refused}
 use Rattle.worked.specs.Books.{book_a, letters_b, book_b, endless, circular, pressed}
@@ -26,7 +27,9 @@ unfolding tests
 fourth_matches = matches book_a (pressed (33 ∷ 35 ∷ 34 ∷ [])) (only 35) (35 ∷ []) 35 three_held.lit refl refl
 
 pub four_crowded : PressRefused book_a 7 (pressed (33 ∷ 35 ∷ 34 ∷ [])) (only 35) (ChartFull 3)
-four_crowded = PressRefused.crowded _ (omega arith) fourth_matches four_held.items (omega arith)
+four_crowded =
+    let all = (press_theorem book_a 7 (pressed (33 ∷ 35 ∷ 34 ∷ [])) (only 35)).all _ four_held.items in
+    PressRefused.crowded (omega arith) fourth_matches (all.1 (omega arith))
 
 pub four_taken : PressTaken book_a 8 (pressed (33 ∷ 35 ∷ 34 ∷ [])) (only 35)
 four_taken = record { room = omega arith; matches = fourth_matches; items = _; exact = four_held.items; fits = omega arith }

@@ -1,0 +1,7 @@
+pub mod Answered
+pub mod Chained
+pub mod Entering
+pub mod Marking
+pub mod Places
+pub mod Plain
+pub mod Spanning

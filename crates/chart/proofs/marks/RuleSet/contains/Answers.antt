@@ -1,0 +1,7 @@
+use Rattle.std.proofs.Common.{refl}
+use Rattle.language.specs.Masks.{bit}
+use Rattle.chart.proofs.marks.RuleSet.contains.Goals as goal
+
+pub returns : goal.returns
+unfolding bit
+returns c = refl

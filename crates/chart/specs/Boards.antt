@@ -1,0 +1,47 @@
+-- How the places of the chart change.
+use Rattle.std.specs.Prelude.{◌≡◌, ℕ, suc, ◌<◌, ◌≤◌, Bool, true, false, ◌||◌, ◌⊎◌, List, length, slice_index_or, slice_set}
+use Rattle.rulebook.specs.declared.sets.SymbolSet.{SymbolSet}
+use Rattle.chart.specs.Items.{blank_item}
+use Rattle.chart.specs.Marks.{Small, marked, is_item}
+use Rattle.chart.specs.declared.items.Item.{Item}
+use Rattle.chart.specs.declared.boards.Board.{Board}
+
+-- what stands at a place
+abbrev pub at_place : Board → ℕ → Item
+at_place b p = slice_index_or b.chart.items p blank_item
+
+-- the item t is marked
+abbrev pub is_marked : Board → Item → Bool
+is_marked b t = marked b.marks t.rule t.done t.start
+
+-- an item is entered at the first place that is not in use, and marked
+pub record Appended (old new : Board) (t : Item) : Type 0 where
+  pub fresh : is_marked old t ≡ false
+  pub room : old.top < old.limit
+  pub limit : new.limit ≡ old.limit
+  pub top : new.top ≡ suc old.top
+  pub chart : new.chart.items ≡ slice_set old.chart.items old.top t
+  pub marks : (r d i : ℕ) → Small r d i → marked new.marks r d i ≡ (is_item t r d i || marked old.marks r d i)
+  pub parts : new.parts ≡ old.parts
+
+-- an item is marked already, and nothing is changed, or it is entered
+abbrev pub Entered : Board → Board → Item → Type 0
+Entered old new t = ((new ≡ old) × (is_marked old t ≡ true)) ⊎ Appended old new t
+
+-- no place is left for an item that is not marked
+pub record NoPlace (b : Board) (t : Item) : Type 0 where
+  pub fresh : is_marked b t ≡ false
+  pub full : b.top ≡ b.limit
+
+-- places in use stay, marks stay, and no place from the new end on is written
+pub record Extends (old new : Board) : Type 0 where
+  pub limit : new.limit ≡ old.limit
+  pub long : length new.chart.items ≡ length old.chart.items
+  pub top : old.top ≤ new.top
+  pub before : (q : ℕ) → q < old.top → at_place new q ≡ at_place old q
+  pub after : (q : ℕ) → new.top ≤ q → at_place new q ≡ at_place old q
+  pub marks : (r d i : ℕ) → Small r d i → marked old.marks r d i ≡ true → marked new.marks r d i ≡ true
+
+-- the parts that are known to span from after word i
+abbrev pub parts_at : Board → ℕ → SymbolSet
+parts_at b i = slice_index_or b.parts i (record { mask = 0 })

@@ -1,0 +1,57 @@
+// The places of the chart, and the marks by which its last column is filled.
+ghost use Rattle.std.specs.Prelude.{◌≤◌, vec_len};
+
+use super::items::Item;
+use super::marks::Marks;
+use rulebook::SymbolSet;
+
+// No place is left for an item.
+#[derive(Clone, Copy, Debug)]
+pub(super) struct Full;
+
+// The chart with the items in use in front, and which items and parts end at the word that is being pressed.
+#[derive(Drop)]
+pub(super) struct Board {
+    // its length is the budget, and never grows
+    pub(super) chart: Vec<Item>,
+    // how many of its places may be used
+    pub(super) limit: usize,
+    // how many are in use
+    pub(super) top: usize,
+    pub(super) marks: Marks,
+    // by start, the parts that are known to span from there to the word that is being pressed
+    pub(super) parts: [SymbolSet; 100],
+    ghost used: { top ≤ limit },
+    ghost lent: { limit ≤ vec_len chart },
+}
+
+impl Board {
+    ghost use Rattle.std.specs.Prelude.{◌≡◌, ◌<◌, MatchResult};
+    ghost use Rattle.chart.specs.Marks.{Small};
+    ghost use Rattle.chart.specs.Boards.{Entered, NoPlace, at_place};
+
+    // The item at a place in use.
+    pub(super) fn item(&self, place: usize) -> Item
+        requires { place < self.now.top }
+        ensures { result ≡ at_place self.now place }
+    {
+        self.chart[place]
+    }
+
+    // Enters an item, unless it stands there already; refused, and nothing changed, where no place is left.
+    pub(super) fn enter(&mut self, item: Item) -> Result<(), Full>
+        requires { Small item.rule item.done item.start }
+        ensures { MatchResult result (λ _. Entered self.old self.new item) (λ _. (self.new ≡ self.old) × NoPlace self.old item) }
+    {
+        if self.marks.contains(&item) {
+            return Ok(());
+        }
+        if self.top == self.limit {
+            return Err(Full);
+        }
+        self.marks.add(&item);
+        self.chart[self.top] = item;
+        self.top += 1;
+        Ok(())
+    }
+}

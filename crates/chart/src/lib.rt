@@ -1,0 +1,12 @@
+// The draft: the words held, and the chart of the items over them.
+#![tactic(auto)]
+
+mod boards;
+mod filling;
+mod indexes;
+mod items;
+mod marks;
+mod presses;
+mod records;
+
+pub use items::Item;

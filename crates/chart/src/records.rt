@@ -1,0 +1,67 @@
+// What is settled before a word is pressed: the book, and a record for each word held.
+ghost use Rattle.std.specs.Prelude.{◌≤◌};
+
+use super::indexes::Index;
+use rulebook::{Book, SymbolSet};
+use soundbook::SoundBook;
+use wording::Matched;
+
+// What is kept of a word.
+#[derive(Clone, Copy)]
+pub(super) struct Record {
+    // the keys that the word matches
+    pub(super) word: Matched,
+    // the symbols that may start after it
+    pub(super) wanted: SymbolSet,
+    // its items: the places from the first to before the last; up to the middle one stand the unfinished ones
+    pub(super) from: usize,
+    pub(super) waiting: usize,
+    pub(super) past: usize,
+}
+
+impl Record {
+    // no word
+    pub(super) const BLANK: Record = Record {
+        word: Matched::NONE,
+        wanted: SymbolSet::EMPTY,
+        from: 0,
+        waiting: 0,
+        past: 0,
+    };
+}
+
+// The words held, each by its record, and the book by which they are read.
+#[derive(Clone, Copy)]
+pub(super) struct Settled<'b> {
+    pub(super) book: &'b SoundBook,
+    pub(super) index: Index,
+    pub(super) records: [Record; 100],
+    pub(super) held: u16,
+    ghost few: { held ≤ 100 },
+}
+
+impl Settled<'_> {
+    ghost use Rattle.std.specs.Prelude.{◌≡◌};
+    ghost use Rattle.chart.specs.Records.{used_of, wanted_in};
+
+    // The symbols that may start after so many words.
+    pub(super) fn wanted(&self, words: u16) -> SymbolSet
+        requires { words ≤ 100 }
+        ensures { result ≡ wanted_in self.now words }
+    {
+        match words.checked_sub(1) {
+            Some(last) => self.records[usize::from(last)].wanted,
+            None => self.index.corners(self.book.start()),
+        }
+    }
+
+    // How many items there are over the words held.
+    pub(super) fn used(&self) -> usize
+        ensures { result ≡ used_of self.now }
+    {
+        match self.held.checked_sub(1) {
+            Some(last) => self.records[usize::from(last)].past,
+            None => 0,
+        }
+    }
+}
