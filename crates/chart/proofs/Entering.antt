@@ -168,14 +168,14 @@ module _ (s : Settled) (w : Matched) (ready : Ready s w) where
 
   -- nothing is entered
   pub filled_itself : (b : Board) → Filling s w b → Filled s w b b
-  filled_itself b was = record { filling = was; extends = extends_itself b; parts = refl }
+  filled_itself b was = record { filling = was; extends = extends_itself b }
 
   -- an item that is entered is in use and marked
   pub entered : (old new : Board) (t : Item) → Filling s w old → HeldHere s w t → t.end ≡ suc s.held → Entered old new t → Filled s w old new × (is_marked new t ≡ true)
   entered old new t was held here (inl e) =
       subst (λ b. Filled s w old b × (is_marked b t ≡ true)) (sym e.0) (filled_itself old was, e.1)
   entered old new t was held here (inr put) =
-      (record { filling = appended_filling old new t was held here put; extends = appended_extends old new t was held here put; parts = put.parts }, appended_marked old new t was held here put)
+      (record { filling = appended_filling old new t was held here put; extends = appended_extends old new t was held here put }, appended_marked old new t was held here put)
 
   -- an item for which no place is left is one too many
   pub no_place : (old new : Board) (t : Item) → Filling s w old → HeldHere s w t → t.end ≡ suc s.held → (new ≡ old) × NoPlace old t → Overfull s w old new

@@ -1,6 +1,7 @@
 pub mod Answered
 pub mod Chained
 pub mod Entering
+pub mod Following
 pub mod Marking
 pub mod Places
 pub mod Plain

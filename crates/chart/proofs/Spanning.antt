@@ -33,7 +33,7 @@ module _ (s : Settled) (w : Matched) where
 module _ (s : Settled) (w : Matched) (ready : Ready s w) where
   -- one step after another
   pub filled_more : {a b c : Board} → Filled s w a b → Filled s w b c → Filled s w a c
-  filled_more x y = record { filling = y.filling; extends = extends_more x.extends y.extends; parts = y.parts ∙ x.parts }
+  filled_more x y = record { filling = y.filling; extends = extends_more x.extends y.extends }
 
   -- and a step for which there is no place
   pub overfull_more : {a b c : Board} → Extends a b → Overfull s w b c → Overfull s w a c
@@ -52,7 +52,7 @@ module _ (s : Settled) (w : Matched) (ready : Ready s w) where
   span_high _ _ _ (finished r j k h) = omega (arith, (plain_of s).left_high r (bounds s w ready r _ j k h).rule)
 
   -- a rule that is begun can be marked
-  rule_small : (r i : ℕ) → Numbered (grammar_of s) r → i ≤ s.held → Small r 1 i
+  pub rule_small : (r i : ℕ) → Numbered (grammar_of s) r → i ≤ s.held → Small r 1 i
   rule_small r i n l = record {
     rule = record { low = n.low; high = omega (arith, n.high, (plain_of s).few_rules) };
     some_done = omega arith;

@@ -1,6 +1,5 @@
 -- How the places of the chart change.
 use Rattle.std.specs.Prelude.{◌≡◌, ℕ, suc, ◌<◌, ◌≤◌, Bool, true, false, ◌||◌, ◌⊎◌, List, length, slice_index_or, slice_set}
-use Rattle.rulebook.specs.declared.sets.SymbolSet.{SymbolSet}
 use Rattle.chart.specs.Items.{blank_item}
 use Rattle.chart.specs.Marks.{Small, marked, is_item}
 use Rattle.chart.specs.declared.items.Item.{Item}
@@ -22,7 +21,6 @@ pub record Appended (old new : Board) (t : Item) : Type 0 where
   pub top : new.top ≡ suc old.top
   pub chart : new.chart.items ≡ slice_set old.chart.items old.top t
   pub marks : (r d i : ℕ) → Small r d i → marked new.marks r d i ≡ (is_item t r d i || marked old.marks r d i)
-  pub parts : new.parts ≡ old.parts
 
 -- an item is marked already, and nothing is changed, or it is entered
 abbrev pub Entered : Board → Board → Item → Type 0
@@ -42,6 +40,11 @@ pub record Extends (old new : Board) : Type 0 where
   pub after : (q : ℕ) → new.top ≤ q → at_place new q ≡ at_place old q
   pub marks : (r d i : ℕ) → Small r d i → marked old.marks r d i ≡ true → marked new.marks r d i ≡ true
 
--- the parts that are known to span from after word i
-abbrev pub parts_at : Board → ℕ → SymbolSet
-parts_at b i = slice_index_or b.parts i (record { mask = 0 })
+-- the items at two places are changed over
+pub record Swapped (old new : Board) (one other : ℕ) : Type 0 where
+  pub limit : new.limit ≡ old.limit
+  pub top : new.top ≡ old.top
+  pub long : length new.chart.items ≡ length old.chart.items
+  pub first : at_place new one ≡ at_place old other
+  pub second : at_place new other ≡ at_place old one
+  pub others : (q : ℕ) → (q ≡ one → ⊥) → (q ≡ other → ⊥) → at_place new q ≡ at_place old q

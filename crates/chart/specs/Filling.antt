@@ -5,12 +5,13 @@ use Rattle.language.specs.Chart.{Corner, Wanted, Held, Spans}
 use Rattle.rulebook.specs.Presses.{Outnumber}
 use Rattle.rulebook.specs.Sets.{has}
 use Rattle.wording.specs.declared.pressed.Matched.{Matched}
-use Rattle.chart.specs.Boards.{Extends, at_place, is_marked, parts_at}
+use Rattle.chart.specs.Boards.{Extends, at_place, is_marked}
 use Rattle.chart.specs.Items.{entry}
-use Rattle.chart.specs.Marks.{Small, marked}
+use Rattle.chart.specs.Marks.{Small, marked, parts_at}
 use Rattle.chart.specs.Records.{grammar_of, words_with, record_of, used_of}
 use Rattle.chart.specs.declared.items.Item.{Item}
 use Rattle.chart.specs.declared.boards.Board.{Board}
+use Rattle.chart.specs.declared.marks.Parts.{Parts}
 use Rattle.chart.specs.declared.records.Settled.{Settled}
 
 -- the item stands at one of the places from the first to before the last
@@ -55,7 +56,6 @@ module _ (s : Settled) (w : Matched) where
   pub record Filled (old new : Board) : Type 0 where
     pub filling : Filling new
     pub extends : Extends old new
-    pub parts : new.parts ≡ old.parts
 
   -- the items outnumber the places, and only places that were not in use are written
   pub record Overfull (old new : Board) : Type 0 where
@@ -92,13 +92,27 @@ module _ (s : Settled) (w : Matched) where
   KeysDone b = (c : ℕ) → Key (grammar_of s) c → KeyDone b c
 
   -- all that follows from the parts that are known to span is entered
-  abbrev pub PartsDone : Board → Type 0
-  PartsDone b = (X i : ℕ) → i ≤ s.held → has (parts_at b i) X ≡ true → SpanDone b X i
+  abbrev pub PartsDone : Board → Parts → Type 0
+  PartsDone b p = (X i : ℕ) → i ≤ s.held → has (parts_at p i) X ≡ true → SpanDone b X i
 
   -- if the item is finished, its left side is known to span
-  abbrev pub Followed : Board → Item → Type 0
-  Followed b t = t.done ≡ size (grammar_of s) t.rule → has (parts_at b t.start) (left (grammar_of s) t.rule) ≡ true
+  abbrev pub Followed : Parts → Item → Type 0
+  Followed p t = t.done ≡ size (grammar_of s) t.rule → has (parts_at p t.start) (left (grammar_of s) t.rule) ≡ true
+
+  -- an item is followed up, and what was known stays
+  pub record FollowedUp (b : Board) (old new : Parts) (t : Item) : Type 0 where
+    pub done : PartsDone b new
+    pub kept : (X i : ℕ) → has (parts_at old i) X ≡ true → has (parts_at new i) X ≡ true
+    pub followed : Followed new t
 
   -- every item that ends at the new word stands behind those of the words before
   abbrev pub AllStand : Board → Type 0
   AllStand b = (r d i : ℕ) → Held (grammar_of s) (words_with s w) r d i (suc s.held) → Standing b (used_of s) b.top (entry r d i (suc s.held))
+
+  -- the column is filled: all in use are items, each once, and every item of the new word is among them
+  pub record Complete (b : Board) : Type 0 where
+    pub begins : used_of s ≤ b.top
+    pub items : (q : ℕ) → q < b.top → HeldHere (at_place b q)
+    pub apart : (p q : ℕ) → p < q → q < b.top → at_place b p ≡ at_place b q → ⊥
+    pub column : (q : ℕ) → used_of s ≤ q → q < b.top → (at_place b q).end ≡ suc s.held
+    pub all : AllStand b

@@ -5,3 +5,4 @@ pub mod Items
 pub mod Marks
 pub mod Ready
 pub mod Records
+pub mod Sifting

@@ -1,8 +1,10 @@
 -- Which items are marked.
 use Rattle.std.specs.Prelude.{ℕ, ◌+◌, ◌-◌, ◌*◌, ◌<◌, ◌≤◌, Bool, ◌&&◌, ◌==◌, slice_index_or}
 use Rattle.language.specs.Masks.{bit}
+use Rattle.rulebook.specs.declared.sets.SymbolSet.{SymbolSet}
 use Rattle.chart.specs.declared.items.Item.{Item}
 use Rattle.chart.specs.declared.marks.Marks.{Marks}
+use Rattle.chart.specs.declared.marks.Parts.{Parts}
 
 -- r is one of the rules that a set can hold
 pub record InRules (r : ℕ) : Type 0 where
@@ -23,3 +25,7 @@ marked m r d i = bit (slice_index_or m.rows (6 * i + (d - 1)) (record { mask = 0
 -- the item has this rule, symbols done and start
 abbrev pub is_item : Item → ℕ → ℕ → ℕ → Bool
 is_item t r d i = t.rule == r && (t.done == d && t.start == i)
+
+-- the parts that are known to span from after word i
+abbrev pub parts_at : Parts → ℕ → SymbolSet
+parts_at p i = slice_index_or p.sets i (record { mask = 0 })

@@ -3,13 +3,12 @@ ghost use Rattle.std.specs.Prelude.{◌≤◌, vec_len};
 
 use super::items::Item;
 use super::marks::Marks;
-use rulebook::SymbolSet;
 
 // No place is left for an item.
 #[derive(Clone, Copy, Debug)]
 pub(super) struct Full;
 
-// The chart with the items in use in front, and which items and parts end at the word that is being pressed.
+// The chart with the items in use in front, and which of them end at the word that is being pressed.
 #[derive(Drop)]
 pub(super) struct Board {
     // its length is the budget, and never grows
@@ -19,8 +18,6 @@ pub(super) struct Board {
     // how many are in use
     pub(super) top: usize,
     pub(super) marks: Marks,
-    // by start, the parts that are known to span from there to the word that is being pressed
-    pub(super) parts: [SymbolSet; 100],
     ghost used: { top ≤ limit },
     ghost lent: { limit ≤ vec_len chart },
 }
@@ -28,7 +25,7 @@ pub(super) struct Board {
 impl Board {
     ghost use Rattle.std.specs.Prelude.{◌≡◌, ◌<◌, MatchResult};
     ghost use Rattle.chart.specs.Marks.{Small};
-    ghost use Rattle.chart.specs.Boards.{Entered, NoPlace, at_place};
+    ghost use Rattle.chart.specs.Boards.{Entered, NoPlace, Swapped, at_place};
 
     // The item at a place in use.
     pub(super) fn item(&self, place: usize) -> Item
@@ -36,6 +33,17 @@ impl Board {
         ensures { result ≡ at_place self.now place }
     {
         self.chart[place]
+    }
+
+    // Changes over the items at two places in use.
+    pub(super) fn swap(&mut self, one: usize, other: usize)
+        requires one { one < self.old.top }
+        requires other { other < self.old.top }
+        ensures { Swapped self.old self.new one other }
+    {
+        let item = self.chart[one];
+        self.chart[one] = self.chart[other];
+        self.chart[other] = item;
     }
 
     // Enters an item, unless it stands there already; refused, and nothing changed, where no place is left.

@@ -98,7 +98,7 @@ impl Press<'_, '_> {
     }
 
     // Enters all that follows from a symbol that spans.
-    fn span(&self, board: &mut Board, span: Span) -> Result<(), Full>
+    pub(super) fn span(&self, board: &mut Board, span: Span) -> Result<(), Full>
         requires ready { Ready self.now.settled.now self.now.word }
         requires filling { Filling self.now.settled.now self.now.word board.old }
         requires spans { SpansHere self.now.settled.now self.now.word span.symbol span.start }

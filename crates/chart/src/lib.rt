@@ -2,6 +2,7 @@
 #![tactic(auto)]
 
 mod boards;
+mod columns;
 mod filling;
 mod indexes;
 mod items;

@@ -1,9 +1,11 @@
 // Which items stand in the column that is being filled, so that none is entered twice and no column is searched.
-ghost use Rattle.std.specs.Prelude.{◌≡◌, ℕ, ◌-◌, ◌+◌, ◌*◌, ◌<◌, ◌≤◌, Bool, true, false, ◌||◌, ◌&&◌, ◌==◌, slice_index_or};
-ghost use Rattle.chart.specs.Marks.{InRules, Small, marked, is_item};
+ghost use Rattle.std.specs.Prelude.{◌≡◌, ℕ, ◌-◌, ◌+◌, ◌*◌, ◌<◌, ◌≤◌, false, ◌||◌, ◌==◌};
+ghost use Rattle.rulebook.specs.Sets.{has, is_symbol};
+ghost use Rattle.chart.specs.Marks.{InRules, Small, marked, is_item, parts_at};
 ghost use Rattle.language.specs.Masks.{bit};
 
 use super::items::Item;
+use rulebook::SymbolSet;
 
 // Rules 1 to 128 as a mask: rule r stands at bit r - 1.
 #[derive(Clone, Copy)]
@@ -48,12 +50,10 @@ fn row_of(item: &Item) -> usize
 }
 
 impl Marks {
-    // No item.
-    pub(super) fn new() -> Marks {
-        Marks {
-            rows: [RuleSet::EMPTY; 600],
-        }
-    }
+    // no item
+    pub(super) const NONE: Marks = Marks {
+        rows: [RuleSet::EMPTY; 600],
+    };
 
     // Whether an item is marked, whatever its end.
     pub(super) fn contains(&self, item: &Item) -> bool
@@ -78,5 +78,35 @@ impl Marks {
         ensures { (r d i : ℕ) → Small r d i → i < starts → marked self.new r d i ≡ false }
     {
         self.rows[..6 * usize::from(starts)].fill(RuleSet::EMPTY);
+    }
+}
+
+// The parts that are known to span to the new word, by start.
+#[derive(Clone, Copy)]
+pub(super) struct Parts {
+    sets: [SymbolSet; 100],
+}
+
+impl Parts {
+    // no part
+    pub(super) const NONE: Parts = Parts {
+        sets: [SymbolSet::EMPTY; 100],
+    };
+
+    pub(super) fn contains(&self, part: u16, start: u16) -> bool
+        requires { start < 100 }
+        ensures { result ≡ has (parts_at self.now start) part }
+    {
+        self.sets[usize::from(start)].contains(part)
+    }
+
+    // One part more.
+    pub(super) fn add(&mut self, part: u16, start: u16)
+        requires { start < 100 }
+        ensures here { (X : ℕ) → has (parts_at self.new start) X ≡ (is_symbol part X || has (parts_at self.old start) X) }
+        ensures others { (i : ℕ) → (i ≡ start → ⊥) → parts_at self.new i ≡ parts_at self.old i }
+    {
+        let place = usize::from(start);
+        self.sets[place] = self.sets[place].with(part);
     }
 }

@@ -1,0 +1,20 @@
+-- How the items of a column are put in order.
+use Rattle.std.specs.Prelude.{◌≡◌, ℕ, ◌<◌, ◌≤◌, length}
+use Rattle.language.specs.Book.{Grammar, size}
+use Rattle.chart.specs.Boards.{at_place}
+use Rattle.chart.specs.declared.boards.Board.{Board}
+
+-- the places from one to the end of those in use hold other items, and no others do
+pub record Reordered (from : ℕ) (old new : Board) : Type 0 where
+  pub limit : new.limit ≡ old.limit
+  pub top : new.top ≡ old.top
+  pub long : length new.chart.items ≡ length old.chart.items
+  pub before : (q : ℕ) → q < from → at_place new q ≡ at_place old q
+  pub after : (q : ℕ) → old.top ≤ q → at_place new q ≡ at_place old q
+
+-- of the items from one place to before another, those before the middle are unfinished, and those behind it finished
+pub record SplitAt (g : Grammar) (b : Board) (from middle past : ℕ) : Type 0 where
+  pub low : from ≤ middle
+  pub high : middle ≤ past
+  pub unfinished : (q : ℕ) → from ≤ q → q < middle → (at_place b q).done < size g (at_place b q).rule
+  pub finished : (q : ℕ) → middle ≤ q → q < past → (at_place b q).done ≡ size g (at_place b q).rule
