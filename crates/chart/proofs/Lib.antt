@@ -5,4 +5,5 @@ pub mod Following
 pub mod Marking
 pub mod Places
 pub mod Plain
+pub mod Arranging
 pub mod Spanning

@@ -7,7 +7,6 @@ ghost use Rattle.chart.specs.Boards.{at_place};
 ghost use Rattle.chart.specs.Filling.{Filling, Filled, Overfull, KeyDone, KeysDone, PartsDone, FollowedUp, AllStand, Complete};
 ghost use Rattle.chart.specs.Ready.{Ready};
 ghost use Rattle.chart.specs.Records.{grammar_of, words_with, used_of};
-ghost use Rattle.chart.specs.Sifting.{Reordered, SplitAt};
 
 use super::boards::{Board, Full};
 use super::marks::Parts;

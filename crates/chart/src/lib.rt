@@ -9,5 +9,6 @@ mod items;
 mod marks;
 mod presses;
 mod records;
+mod settling;
 
 pub use items::Item;

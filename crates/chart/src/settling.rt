@@ -1,0 +1,74 @@
+// A filled column is settled: what may start after its word, its unfinished items in front, and its record.
+ghost use Rattle.std.specs.Prelude.{◌≡◌, ℕ, suc, ◌<◌, ◌≤◌, IsTrue, ◌↔◌};
+ghost use Rattle.language.specs.Book.{Numbered, size as size_of};
+ghost use Rattle.language.specs.Chart.{Wanted};
+ghost use Rattle.rulebook.specs.Sets.{has};
+ghost use Rattle.chart.specs.Boards.{at_place};
+ghost use Rattle.chart.specs.Filling.{Complete, NextCorner};
+ghost use Rattle.chart.specs.Ready.{Ready};
+ghost use Rattle.chart.specs.Records.{grammar_of, words_with, used_of};
+ghost use Rattle.chart.specs.Sifting.{Reordered, SplitAt, Sifted};
+
+use super::boards::Board;
+use super::items::Item;
+use super::presses::Press;
+use super::records::Record;
+use rulebook::{Book, SymbolSet};
+
+impl Press<'_, '_> {
+    // The left corners of the next symbol of an item, if it is unfinished.
+    fn next_corners(&self, item: &Item) -> SymbolSet
+        requires ready { Ready self.now.settled.now self.now.word }
+        requires numbered { Numbered (grammar_of self.now.settled.now) item.now.rule }
+        ensures { (Y : ℕ) → IsTrue (has result Y) ↔ NextCorner (grammar_of self.now.settled.now) item.now Y }
+    {
+        if item.done >= self.settled.book.size(item.rule) {
+            return SymbolSet::EMPTY;
+        }
+        let next = self.settled.book.symbol(item.rule, item.done);
+        self.settled.index.corners(next)
+    }
+
+    // The symbols that may start after the new word.
+    fn gather(&self, board: &Board) -> SymbolSet
+        requires ready { Ready self.now.settled.now self.now.word }
+        requires complete { Complete self.now.settled.now self.now.word board.now }
+        ensures { (Y : ℕ) → IsTrue (has result Y) ↔ Wanted (grammar_of self.now.settled.now) (words_with self.now.settled.now self.now.word) (suc self.now.settled.now.held) Y }
+    {
+        let mut wanted = SymbolSet::EMPTY;
+        for at in self.settled.used()..board.top {
+            wanted = wanted.union(&self.next_corners(&board.item(at)));
+        }
+        wanted
+    }
+
+    // Moves an unfinished item in front of the finished ones before it; says where these begin then.
+    fn sift_item(&self, board: &mut Board, at: usize, waiting: usize) -> usize
+        requires complete { Complete self.now.settled.now self.now.word board.old }
+        requires numbered { Ready self.now.settled.now self.now.word }
+        requires split { SplitAt (grammar_of self.now.settled.now) board.old (used_of self.now.settled.now) waiting at }
+        requires inside { at < board.old.top }
+        ensures { let s = self.now.settled.now in Sifted s self.now.word board.old board.new result (suc at) }
+    {
+        let item = board.item(at);
+        if item.done == self.settled.book.size(item.rule) {
+            return waiting;
+        }
+        board.swap(waiting, at);
+        waiting + 1
+    }
+
+    // Puts the unfinished items of the new column in front; says where the finished ones begin.
+    fn sift(&self, board: &mut Board) -> usize
+        requires complete { Complete self.now.settled.now self.now.word board.old }
+        requires numbered { Ready self.now.settled.now self.now.word }
+        ensures { let s = self.now.settled.now in Sifted s self.now.word board.old board.new result board.old.top }
+    {
+        let from = self.settled.used();
+        let mut waiting = from;
+        for at in from..board.top {
+            waiting = self.sift_item(board, at, waiting);
+        }
+        waiting
+    }
+}
