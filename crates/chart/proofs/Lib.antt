@@ -7,3 +7,4 @@ pub mod Places
 pub mod Plain
 pub mod Arranging
 pub mod Spanning
+pub mod Starting

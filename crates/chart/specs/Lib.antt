@@ -2,6 +2,7 @@ pub mod Boards
 pub mod Filling
 pub mod Indexes
 pub mod Items
+pub mod Kept
 pub mod Marks
 pub mod Ready
 pub mod Records

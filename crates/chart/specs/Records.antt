@@ -38,6 +38,10 @@ words_with s w = words_of s ++ (matching w ∷ [])
 abbrev pub wanted_in : Settled → ℕ → SymbolSet
 wanted_in s k = (if k == 0 then corners_at s.index (grammar_of s).start else (record_of s k).wanted)
 
+-- where the items of the first words end
+abbrev pub past_of : Settled → ℕ → ℕ
+past_of s k = (if k == 0 then 0 else (record_of s k).past)
+
 -- how many items there are over the words held
 abbrev pub used_of : Settled → ℕ
-used_of s = (if s.held == 0 then 0 else (record_of s s.held).past)
+used_of s = past_of s s.held

@@ -23,9 +23,9 @@ pub(super) struct Board {
 }
 
 impl Board {
-    ghost use Rattle.std.specs.Prelude.{◌≡◌, ◌<◌, MatchResult};
+    ghost use Rattle.std.specs.Prelude.{◌≡◌, ◌<◌, ◌≤◌, MatchResult};
     ghost use Rattle.chart.specs.Marks.{Small};
-    ghost use Rattle.chart.specs.Boards.{Entered, NoPlace, Swapped, at_place};
+    ghost use Rattle.chart.specs.Boards.{Entered, NoPlace, Swapped, Unmarked, at_place};
 
     // The item at a place in use.
     pub(super) fn item(&self, place: usize) -> Item
@@ -33,6 +33,14 @@ impl Board {
         ensures { result ≡ at_place self.now place }
     {
         self.chart[place]
+    }
+
+    // Takes the marks off all items that start after fewer than so many words.
+    pub(super) fn unmark(&mut self, starts: u16)
+        requires { starts ≤ 100 }
+        ensures { Unmarked self.old self.new starts }
+    {
+        self.marks.clear(starts);
     }
 
     // Changes over the items at two places in use.

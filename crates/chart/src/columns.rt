@@ -35,7 +35,7 @@ impl Press<'_, '_> {
     }
 
     // Enters all that follows from the keys that the new word matches.
-    fn keys(&self, board: &mut Board) -> Result<(), Full>
+    pub(super) fn keys(&self, board: &mut Board) -> Result<(), Full>
         requires ready { Ready self.now.settled.now self.now.word }
         requires filling { Filling self.now.settled.now self.now.word board.old }
         ensures { let s = self.now.settled.now in let w = self.now.word in MatchResult result (λ _. Filled s w board.old board.new × KeysDone s w board.new) (λ _. Overfull s w board.old board.new) }
@@ -75,7 +75,7 @@ impl Press<'_, '_> {
     }
 
     // Enters all that follows from the items of the new column, which grows meanwhile.
-    fn follow(&self, board: &mut Board) -> Result<(), Full>
+    pub(super) fn follow(&self, board: &mut Board) -> Result<(), Full>
         requires ready { Ready self.now.settled.now self.now.word }
         requires filling { Filling self.now.settled.now self.now.word board.old }
         requires keys { KeysDone self.now.settled.now self.now.word board.old }

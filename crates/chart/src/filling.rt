@@ -13,7 +13,7 @@ use rulebook::Book;
 
 impl Press<'_, '_> {
     // The number of the word that is being pressed.
-    fn end(&self) -> u16
+    pub(super) fn end(&self) -> u16
         ensures { result ≡ suc self.now.settled.now.held }
     {
         self.settled.held + 1

@@ -1,15 +1,15 @@
 // A filled column is settled: what may start after its word, its unfinished items in front, and its record.
-ghost use Rattle.std.specs.Prelude.{◌≡◌, ℕ, suc, ◌<◌, ◌≤◌, IsTrue, ◌↔◌};
-ghost use Rattle.language.specs.Book.{Numbered, size as size_of};
+ghost use Rattle.std.specs.Prelude.{◌≡◌, ℕ, suc, ◌<◌, MatchResult, IsTrue, ◌↔◌};
+ghost use Rattle.language.specs.Book.{Numbered};
 ghost use Rattle.language.specs.Chart.{Wanted};
 ghost use Rattle.rulebook.specs.Sets.{has};
-ghost use Rattle.chart.specs.Boards.{at_place};
 ghost use Rattle.chart.specs.Filling.{Complete, NextCorner};
 ghost use Rattle.chart.specs.Ready.{Ready};
 ghost use Rattle.chart.specs.Records.{grammar_of, words_with, used_of};
-ghost use Rattle.chart.specs.Sifting.{Reordered, SplitAt, Sifted};
+ghost use Rattle.chart.specs.Kept.{Kept, Recorded, Crowded};
+ghost use Rattle.chart.specs.Sifting.{SplitAt, Sifted};
 
-use super::boards::Board;
+use super::boards::{Board, Full};
 use super::items::Item;
 use super::presses::Press;
 use super::records::Record;
@@ -45,7 +45,7 @@ impl Press<'_, '_> {
     // Moves an unfinished item in front of the finished ones before it; says where these begin then.
     fn sift_item(&self, board: &mut Board, at: usize, waiting: usize) -> usize
         requires complete { Complete self.now.settled.now self.now.word board.old }
-        requires numbered { Ready self.now.settled.now self.now.word }
+        requires ready { Ready self.now.settled.now self.now.word }
         requires split { SplitAt (grammar_of self.now.settled.now) board.old (used_of self.now.settled.now) waiting at }
         requires inside { at < board.old.top }
         ensures { let s = self.now.settled.now in Sifted s self.now.word board.old board.new result (suc at) }
@@ -61,7 +61,7 @@ impl Press<'_, '_> {
     // Puts the unfinished items of the new column in front; says where the finished ones begin.
     fn sift(&self, board: &mut Board) -> usize
         requires complete { Complete self.now.settled.now self.now.word board.old }
-        requires numbered { Ready self.now.settled.now self.now.word }
+        requires ready { Ready self.now.settled.now self.now.word }
         ensures { let s = self.now.settled.now in Sifted s self.now.word board.old board.new result board.old.top }
     {
         let from = self.settled.used();
@@ -70,5 +70,35 @@ impl Press<'_, '_> {
             waiting = self.sift_item(board, at, waiting);
         }
         waiting
+    }
+
+    // The record of the new word, once its column is filled.
+    fn settle(&self, board: &mut Board) -> Record
+        requires ready { Ready self.now.settled.now self.now.word }
+        requires complete { Complete self.now.settled.now self.now.word board.old }
+        ensures { Recorded self.now.settled.now self.now.word board.old board.new result }
+    {
+        let wanted = self.gather(board);
+        let waiting = self.sift(board);
+        Record {
+            word: self.word,
+            wanted,
+            from: self.settled.used(),
+            waiting,
+            past: board.top,
+        }
+    }
+
+    // Fills the column of the new word, and tells its record.
+    pub(super) fn fill(&self, board: &mut Board) -> Result<Record, Full>
+        requires ready { Ready self.now.settled.now self.now.word }
+        requires kept { Kept self.now.settled.now board.old }
+        ensures { let s = self.now.settled.now in let w = self.now.word in MatchResult result (Recorded s w board.old board.new) (λ _. Crowded s w board.old board.new) }
+    {
+        // Only the marks of starts before the new word are ever set.
+        board.unmark(self.end());
+        self.keys(board)?;
+        self.follow(board)?;
+        Ok(self.settle(board))
     }
 }
