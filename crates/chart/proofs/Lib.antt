@@ -2,6 +2,7 @@ pub mod Answered
 pub mod Chained
 pub mod Entering
 pub mod Following
+pub mod Keeping
 pub mod Marking
 pub mod Places
 pub mod Plain

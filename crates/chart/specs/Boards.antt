@@ -1,5 +1,5 @@
 -- How the places of the chart change.
-use Rattle.std.specs.Prelude.{◌≡◌, ℕ, suc, ◌<◌, ◌≤◌, Bool, true, false, ◌||◌, ◌⊎◌, List, length, slice_index_or, slice_set}
+use Rattle.std.specs.Prelude.{◌≡◌, ℕ, suc, ◌<◌, ◌≤◌, Bool, true, false, ◌||◌, ◌⊎◌, List, length, min, slice_index_or, slice_set}
 use Rattle.chart.specs.Items.{blank_item}
 use Rattle.chart.specs.Marks.{Small, marked, is_item}
 use Rattle.chart.specs.declared.items.Item.{Item}
@@ -12,6 +12,14 @@ at_place b p = slice_index_or b.chart.items p blank_item
 -- the item t is marked
 abbrev pub is_marked : Board → Item → Bool
 is_marked b t = marked b.marks t.rule t.done t.start
+
+-- no place is in use, and of the chart as it was lent only those that may be used are blanked
+pub record Fresh (lent : List Item) (b : Board) : Type 0 where
+  pub limit : b.limit ≡ min 60000 (length lent)
+  pub top : b.top ≡ 0
+  pub long : length b.chart.items ≡ length lent
+  pub blank : (q : ℕ) → q < b.limit → at_place b q ≡ blank_item
+  pub after : (q : ℕ) → b.limit ≤ q → at_place b q ≡ slice_index_or lent q blank_item
 
 -- an item is entered at the first place that is not in use, and marked
 pub record Appended (old new : Board) (t : Item) : Type 0 where
@@ -55,3 +63,12 @@ pub record Unmarked (old new : Board) (starts : ℕ) : Type 0 where
   pub top : new.top ≡ old.top
   pub chart : new.chart.items ≡ old.chart.items
   pub none : (r d i : ℕ) → Small r d i → i < starts → marked new.marks r d i ≡ false
+
+-- the places in use from one on are blank, and no longer in use
+pub record Cut (old new : Board) (from : ℕ) : Type 0 where
+  pub limit : new.limit ≡ old.limit
+  pub top : new.top ≡ from
+  pub long : length new.chart.items ≡ length old.chart.items
+  pub before : (q : ℕ) → q < from → at_place new q ≡ at_place old q
+  pub blank : (q : ℕ) → from ≤ q → q < old.top → at_place new q ≡ blank_item
+  pub after : (q : ℕ) → old.top ≤ q → at_place new q ≡ at_place old q

@@ -14,3 +14,7 @@ blank_item = entry 0 0 0 0
 -- the item that stands at a place
 abbrev pub told : Item → Told
 told t = item t.rule t.done t.start t.end
+
+-- what is told of a blank place
+abbrev pub blank_told : Told
+blank_told = item 0 0 0 0

@@ -1,5 +1,6 @@
 -- What a draft keeps between its calls.
 use Rattle.std.specs.Prelude.{◌≡◌, ℕ, suc, ◌-◌, ◌<◌, ◌≤◌, length, slice_index_or, IsTrue, ◌↔◌, min}
+use Rattle.language.specs.Book.{Grammar}
 use Rattle.language.specs.Chart.{Wanted, Held}
 use Rattle.rulebook.specs.Presses.{Outnumber}
 use Rattle.rulebook.specs.Sets.{has}
@@ -15,12 +16,13 @@ use Rattle.chart.specs.declared.items.Item.{Item}
 use Rattle.chart.specs.declared.records.Record.{Record}
 use Rattle.chart.specs.declared.records.Settled.{Settled}
 
--- the column of word k: it begins where the one before ends, its items end at that word, and the unfinished stand in front
-pub record Column (s : Settled) (b : Board) (k : ℕ) : Type 0 where
-  pub begins : (record_of s k).from ≡ past_of s (k - 1)
-  pub split : SplitAt (grammar_of s) b (record_of s k).from (record_of s k).waiting (record_of s k).past
-  pub within : (record_of s k).past ≤ b.top
-  pub ends : (q : ℕ) → (record_of s k).from ≤ q → q < (record_of s k).past → (at_place b q).end ≡ k
+-- the record of word k tells its column: it begins where the one before ends, its items end at that word, and the unfinished
+-- stand in front
+pub record Column (g : Grammar) (b : Board) (k start : ℕ) (r : Record) : Type 0 where
+  pub begins : r.from ≡ start
+  pub split : SplitAt g b r.from r.waiting r.past
+  pub within : r.past ≤ b.top
+  pub ends : (q : ℕ) → r.from ≤ q → q < r.past → (at_place b q).end ≡ k
 
 -- the items over the words held stand column by column, each once, and no other; the records tell their words, what may start
 -- after them, and their items; all other places and records are blank
@@ -33,7 +35,7 @@ pub record Kept (s : Settled) (b : Board) : Type 0 where
   pub apart : (p q : ℕ) → p < q → q < b.top → at_place b p ≡ at_place b q → ⊥
   pub all : (r d i k : ℕ) → Held (grammar_of s) (words_of s) r d i k → Standing b (record_of s k).from (record_of s k).past (entry r d i k)
   pub wanted : (j Y : ℕ) → j ≤ s.held → IsTrue (has (wanted_in s j) Y) ↔ Wanted (grammar_of s) (words_of s) j Y
-  pub columns : (k : ℕ) → 1 ≤ k → k ≤ s.held → Column s b k
+  pub columns : (k : ℕ) → 1 ≤ k → k ≤ s.held → Column (grammar_of s) b k (past_of s (k - 1)) (record_of s k)
   pub cleared : (j : ℕ) → s.held ≤ j → j < 100 → slice_index_or s.records j blank_record ≡ blank_record
   pub blank : (q : ℕ) → b.top ≤ q → q < b.limit → at_place b q ≡ blank_item
 
@@ -56,5 +58,6 @@ pub record Crowded (s : Settled) (w : Matched) (old new : Board) : Type 0 where
   pub more : Outnumber (grammar_of s) old.limit (words_with s w)
   pub limit : new.limit ≡ old.limit
   pub long : length new.chart.items ≡ length old.chart.items
+  pub top : used_of s ≤ new.top
   pub before : (q : ℕ) → q < used_of s → at_place new q ≡ at_place old q
-  pub after : (q : ℕ) → old.limit ≤ q → at_place new q ≡ at_place old q
+  pub after : (q : ℕ) → new.top ≤ q → at_place new q ≡ at_place old q

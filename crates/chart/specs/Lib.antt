@@ -1,4 +1,5 @@
 pub mod Boards
+pub mod Calls
 pub mod Filling
 pub mod Indexes
 pub mod Items
@@ -7,3 +8,5 @@ pub mod Marks
 pub mod Ready
 pub mod Records
 pub mod Sifting
+pub mod States
+pub mod Views

@@ -4,6 +4,9 @@ ghost use Rattle.std.specs.Prelude.{◌≤◌, vec_len};
 use super::items::Item;
 use super::marks::Marks;
 
+// The most places of a chart that are used.
+const MOST_PLACES: usize = 60000;
+
 // No place is left for an item.
 #[derive(Clone, Copy, Debug)]
 pub(super) struct Full;
@@ -25,7 +28,23 @@ pub(super) struct Board {
 impl Board {
     ghost use Rattle.std.specs.Prelude.{◌≡◌, ◌<◌, ◌≤◌, MatchResult};
     ghost use Rattle.chart.specs.Marks.{Small};
-    ghost use Rattle.chart.specs.Boards.{Entered, NoPlace, Swapped, Unmarked, at_place};
+    ghost use Rattle.chart.specs.Boards.{Cut, Entered, Fresh, NoPlace, Swapped, Unmarked, at_place};
+
+    // A chart of which no place is in use: those that may be used are blank.
+    pub(super) fn over(chart: Vec<Item>) -> Board
+        ensures { Fresh chart.items result }
+    {
+        // As if all were in use, and are no longer.
+        let limit = chart.len().min(MOST_PLACES);
+        let mut board = Board {
+            chart,
+            limit,
+            top: limit,
+            marks: Marks::NONE,
+        };
+        board.cut(0);
+        board
+    }
 
     // The item at a place in use.
     pub(super) fn item(&self, place: usize) -> Item
@@ -33,6 +52,15 @@ impl Board {
         ensures { result ≡ at_place self.now place }
     {
         self.chart[place]
+    }
+
+    // Blanks the places in use from one on: they are in use no longer.
+    pub(super) fn cut(&mut self, from: usize)
+        requires { from ≤ self.old.top }
+        ensures { Cut self.old self.new from }
+    {
+        self.chart[from..self.top].fill(Item::BLANK);
+        self.top = from;
     }
 
     // Takes the marks off all items that start after fewer than so many words.

@@ -3,6 +3,7 @@
 
 mod boards;
 mod columns;
+mod drafts;
 mod filling;
 mod indexes;
 mod items;
@@ -11,4 +12,5 @@ mod presses;
 mod records;
 mod settling;
 
+pub use drafts::{Draft, LitSet};
 pub use items::Item;

@@ -40,9 +40,26 @@ pub(super) struct Settled<'b> {
     ghost few: { held ≤ 100 },
 }
 
-impl Settled<'_> {
-    ghost use Rattle.std.specs.Prelude.{◌≡◌};
-    ghost use Rattle.chart.specs.Records.{used_of, wanted_in};
+impl<'b> Settled<'b> {
+    ghost use Rattle.std.specs.Prelude.{◌≡◌, replicate};
+    ghost use Rattle.soundbook.specs.Sounds.{sound_meaning};
+    ghost use Rattle.chart.specs.Indexes.{IndexOf};
+    ghost use Rattle.chart.specs.Records.{blank_record, used_of, wanted_in};
+
+    // No word is held.
+    pub(super) fn of(book: &'b SoundBook) -> Settled<'b>
+        ensures book { result.book ≡ book.entry }
+        ensures index { IndexOf (sound_meaning book.now).grammar result.index }
+        ensures records { result.records ≡ replicate 100 blank_record }
+        ensures held { result.held ≡ 0 }
+    {
+        Settled {
+            book,
+            index: Index::of(book),
+            records: [Record::BLANK; 100],
+            held: 0,
+        }
+    }
 
     // The symbols that may start after so many words.
     pub(super) fn wanted(&self, words: u16) -> SymbolSet
