@@ -33,7 +33,7 @@ past_first s = refl
 pub past_after : (s : Settled) (k : ℕ) → 1 ≤ k → past_of s k ≡ (record_of s k).past
 past_after s k some = cond-false (eqb k 0) 0 (record_of s k).past (ne_eqb k 0 (λ e. omega arith))
 
-wanted_after : (s : Settled) (k : ℕ) → 1 ≤ k → wanted_in s k ≡ (record_of s k).wanted
+pub wanted_after : (s : Settled) (k : ℕ) → 1 ≤ k → wanted_in s k ≡ (record_of s k).wanted
 wanted_after s k some = cond-false (eqb k 0) (corners_at s.index (grammar_of s).start) (record_of s k).wanted (ne_eqb k 0 (λ e. omega arith))
 
 -- what a draft keeps of the places of its items
@@ -90,10 +90,10 @@ module _ (s : Settled) (b : Board) (kept : Kept s b) where
 
 -- a draft of one word fewer, and one of one word more
 module _ (book : Bor SoundBook) (index : Index) (less more : List Record) (n m : ℕ) (few : n ≤ 100) (few' : m ≤ 100) (last : Record) where
-  abbrev less_of : Settled
+  abbrev pub less_of : Settled
   less_of = record { book = book; index = index; records = less; held = n; few = few }
 
-  abbrev more_of : Settled
+  abbrev pub more_of : Settled
   more_of = record { book = book; index = index; records = more; held = m; few = few' }
 
   -- the records differ at the last word alone

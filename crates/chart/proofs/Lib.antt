@@ -1,5 +1,6 @@
 pub mod Answered
 pub mod Chained
+pub mod Changing
 pub mod Entering
 pub mod Following
 pub mod Keeping
@@ -7,5 +8,6 @@ pub mod Marking
 pub mod Places
 pub mod Plain
 pub mod Arranging
+pub mod Seen
 pub mod Spanning
 pub mod Starting

@@ -9,4 +9,5 @@ pub mod Ready
 pub mod Records
 pub mod Sifting
 pub mod States
+pub mod Takings
 pub mod Views

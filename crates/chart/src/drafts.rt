@@ -1,16 +1,18 @@
 // The draft: words are pressed and rubbed out, and the chart of the items over them is kept.
-ghost use Rattle.std.specs.Prelude.{◌≡◌, map, MatchResult, IsTrue, ◌↔◌};
+ghost use Rattle.std.specs.Prelude.{◌≡◌, ◌<◌, map, MatchResult, IsTrue, ◌↔◌};
 ghost use Rattle.language.specs.Chart.{Whole};
 ghost use Rattle.soundbook.specs.Sounds.{sound_meaning};
 ghost use Rattle.wording.specs.Sets.{word_of};
 ghost use Rattle.chart.specs.Calls.{Pressed, NotPressed, RubbedOut, NotRubbedOut, LitIs};
+ghost use Rattle.chart.specs.Takings.{Taken, NotTaken};
+ghost use Rattle.chart.specs.Records.{matching};
 ghost use Rattle.chart.specs.Items.{told};
 ghost use Rattle.chart.specs.States.{Stands, words, opened};
 
 use super::boards::{Board, Full};
 use super::items::Item;
 use super::presses::Press;
-use super::records::Settled;
+use super::records::{Record, Settled};
 use rulebook::{Fault, SymbolSet};
 use soundbook::SoundBook;
 use std::marker::Model;
@@ -63,5 +65,85 @@ impl<'b> Draft<'b> {
         let Draft { settled: _, board } = self;
         let Board { chart, .. } = board;
         chart
+    }
+
+    // Takes a word that matches a lit key, if its items fit.
+    fn take(&mut self, word: Matched) -> Result<usize, Fault>
+        requires { self.old.held < 100 }
+        ensures { MatchResult result (Taken self.old self.new (matching word)) (NotTaken self.old self.new (matching word)) }
+    {
+        let held = usize::from(self.settled.held);
+        let from = self.board.top;
+        let press = Press {
+            settled: &self.settled,
+            word,
+        };
+        match press.fill(&mut self.board) {
+            Ok(record) => {
+                self.settled.records[held] = record;
+                self.settled.held += 1;
+                Ok(self.board.top)
+            }
+            Err(Full) => {
+                self.board.cut(from);
+                Err(Fault::ChartFull { held })
+            }
+        }
+    }
+
+    // Adds a word behind those held, and answers how many items are in use. Refused where 100 words are held, then where the
+    // word matches no lit key, then where the items, this word held too, outnumber the draft's places.
+    pub fn press<W: Word>(&mut self, word: &W) -> Result<usize, Fault>
+        ensures stands { Stands self.new }
+        ensures cases { MatchResult result (Pressed self.old self.new (word_of (W.tells word.now))) (NotPressed self.old self.new (word_of (W.tells word.now))) }
+    {
+        let held = self.settled.held;
+        if held >= MOST_WORDS {
+            return Err(Fault::DraftFull {
+                held: usize::from(held),
+            });
+        }
+        let matched = Matched::of(word);
+        if self.settled.lit().common(&matched.keys()).is_empty() {
+            return Err(Fault::DarkWord {
+                held: usize::from(held),
+            });
+        }
+        self.take(matched)
+    }
+
+    // Removes the last word, and answers how many items are in use. Refused where no word is held.
+    pub fn rub_out(&mut self) -> Result<usize, Fault>
+        ensures stands { Stands self.new }
+        ensures cases { MatchResult result (RubbedOut self.old self.new) (NotRubbedOut self.old self.new) }
+    {
+        let Some(last) = self.settled.held.checked_sub(1) else {
+            return Err(Fault::NothingHeld { held: 0 });
+        };
+        let place = usize::from(last);
+        self.board.cut(self.settled.records[place].from);
+        self.settled.records[place] = Record::BLANK;
+        self.settled.held = last;
+        Ok(self.board.top)
+    }
+
+    // The lit keys, and how many they are.
+    pub fn lit(&self) -> LitSet
+        ensures stands { Stands self.now }
+        ensures lit { LitIs self.now result }
+    {
+        let keys = self.settled.lit();
+        LitSet {
+            keys,
+            count: keys.count(),
+        }
+    }
+
+    // Whether the words held are a programme.
+    pub fn whole(&self) -> bool
+        ensures stands { Stands self.now }
+        ensures whole { IsTrue result ↔ Whole self.now.grammar (words self.now) }
+    {
+        self.settled.is_whole(&self.board)
     }
 }

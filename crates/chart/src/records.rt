@@ -41,7 +41,8 @@ pub(super) struct Settled<'b> {
 }
 
 impl<'b> Settled<'b> {
-    ghost use Rattle.std.specs.Prelude.{◌≡◌, replicate};
+    ghost use Rattle.std.specs.Prelude.{◌≡◌, ℕ, ◌&&◌, replicate};
+    ghost use Rattle.rulebook.specs.Sets.{has, key_number};
     ghost use Rattle.soundbook.specs.Sounds.{sound_meaning};
     ghost use Rattle.chart.specs.Indexes.{IndexOf};
     ghost use Rattle.chart.specs.Records.{blank_record, used_of, wanted_in};
@@ -80,5 +81,12 @@ impl<'b> Settled<'b> {
             Some(last) => self.records[usize::from(last)].past,
             None => 0,
         }
+    }
+
+    // The lit keys: those that may start after the last word.
+    pub(super) fn lit(&self) -> SymbolSet
+        ensures { (c : ℕ) → has result c ≡ (has (wanted_in self.now self.now.held) c && key_number c) }
+    {
+        self.wanted(self.held).common(&SymbolSet::keys())
     }
 }

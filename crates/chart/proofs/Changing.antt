@@ -1,0 +1,138 @@
+-- How the calls of a draft change what is seen of it.
+use Rattle.std.proofs.Common.{◌≡◌, ℕ, suc, ◌+◌, ◌-◌, ◌<◌, ◌≤◌, min, List, [], ◌∷◌, ◌++◌, map, length, get_or, set, replicate, sym, refl, ap, ◌∙◌, subst, ⊎_elim, le_refl, Bor, arith}
+use Rattle.std.proofs.lemmas.List.{length-map, ext_get_or, map-set, set-set, set-get_or, get_or-set_same, get_or-set_other, length-set}
+use Rattle.std.proofs.Math.ListN.{get_or-map}
+use Rattle.std.proofs.lemmas.Bool.{cases_lt}
+use Rattle.language.specs.Book.{Grammar, size}
+use Rattle.language.specs.Words.{Word}
+use Rattle.language.specs.Readings.{Item as Told}
+use Rattle.language.specs.Chart.{Held}
+use Rattle.soundbook.specs.declared.sounds.SoundBook.{SoundBook}
+use Rattle.wording.specs.declared.pressed.Matched.{Matched}
+use Rattle.chart.specs.Boards.{Cut, Fresh, at_place}
+use Rattle.chart.specs.Filling.{Standing}
+use Rattle.chart.specs.Items.{entry, blank_item, told, blank_told}
+use Rattle.chart.specs.Kept.{Column, Kept, Recorded, Crowded}
+use Rattle.chart.specs.Records.{grammar_of, words_of, words_with, record_of, blank_record, matching, past_of, used_of}
+use Rattle.chart.specs.States.{WordRecord, State, no_word, record_at, words, blanked, opened, before}
+use Rattle.chart.specs.Views.{recorded, state_of}
+use Rattle.chart.specs.declared.boards.Board.{Board}
+use Rattle.chart.specs.declared.indexes.Index.{Index}
+use Rattle.chart.specs.declared.items.Item.{Item}
+use Rattle.chart.specs.declared.records.Record.{Record}
+use Rattle.chart.specs.declared.records.Settled.{Settled}
+use Rattle.chart.proofs.Keeping.{OneMore, more_of, less_of, words_more}
+use Rattle.chart.proofs.Seen.{blanked_is, words_seen, place_seen, record_seen}
+
+-- states of the same numbers and lists are one
+states_alike : {g h : Grammar} {ps qs : List Told} {b c : ℕ} {rs ts : List WordRecord} {m n u v : ℕ} → g ≡ h → ps ≡ qs → b ≡ c → rs ≡ ts → m ≡ n → u ≡ v
+    → ◌≡◌ {A = State} (record { grammar = g; places = ps; budget = b; records = rs; held = m; used = u }) (record { grammar = h; places = qs; budget = c; records = ts; held = n; used = v })
+states_alike a b c d e f = λ i. record { grammar = a i; places = b i; budget = c i; records = d i; held = e i; used = f i }
+
+-- what is told of a place of a chart
+told_at : (xs : List Item) (q : ℕ) → get_or (map told xs) q blank_told ≡ told (get_or xs q blank_item)
+told_at xs q = get_or-map told xs q blank_item
+
+-- a new draft
+pub opened_seen : (s : Settled) (b : Board) (lent : List Item) → s.records ≡ replicate 100 blank_record → s.held ≡ 0 → Fresh lent b → state_of s b ≡ opened (grammar_of s) (map told lent)
+opened_seen s b lent records held fresh = states_alike refl places (fresh.limit ∙ ap (min 60000) (sym (length-map lent told))) (ap (map recorded) records) held fresh.top
+  where
+    places : map told b.chart.items ≡ blanked (map told lent) 0 (min 60000 (length (map told lent)))
+    places = sym (blanked_is (map told lent) 0 (min 60000 (length (map told lent))) (omega arith) (omega arith) (map told b.chart.items)
+        (length-map b.chart.items told ∙ (fresh.long ∙ sym (length-map lent told)))
+        (λ q l. absurd (omega arith))
+        (λ q l h. told_at b.chart.items q ∙ ap told (fresh.blank q (omega (arith, fresh.limit, length-map lent told))))
+        (λ q l. told_at b.chart.items q ∙ (ap told (fresh.after q (omega (arith, fresh.limit, length-map lent told))) ∙ sym (told_at lent q))))
+
+module _ (book : Bor SoundBook) (index : Index) (less more : List Record) (n m : ℕ) (few : n ≤ 100) (few' : m ≤ 100) (last : Record) (one : OneMore book index less more n m few few' last) (blanks : less ≡ set more n blank_record) where
+  abbrev a : Settled
+  a = less_of book index less more n m few few' last
+
+  abbrev b : Settled
+  b = more_of book index less more n m few few' last
+
+  last_seen : (board : Board) → (record_at (state_of b board) m).from ≡ last.from
+  last_seen board =
+      let here : m - 1 ≡ n = omega (arith, one.next) in
+      ap (λ (r : WordRecord). r.from) (record_seen b board m ∙ ap recorded (ap (λ j. get_or more j blank_record) here ∙ one.here))
+
+  records_seen : map recorded less ≡ set (map recorded more) (m - 1) no_word
+  records_seen =
+      let here : n ≡ m - 1 = omega (arith, one.next) in
+      ap (map recorded) blanks ∙ (map-set recorded more n blank_record ∙ ap (λ j. set (map recorded more) j no_word) here)
+
+  -- the last word is rubbed out
+  pub rubbed_seen : (old new : Board) → last.from ≤ old.top → Cut old new last.from → state_of a new ≡ before (state_of b old)
+  rubbed_seen old new order cut = states_alike refl (subst (λ x. map told new.chart.items ≡ blanked (map told old.chart.items) x old.top) (sym (last_seen old)) places) cut.limit records_seen (omega (arith, one.next)) (cut.top ∙ sym (last_seen old))
+    where
+      places : map told new.chart.items ≡ blanked (map told old.chart.items) last.from old.top
+      places = sym (blanked_is (map told old.chart.items) last.from old.top order (omega (arith, length-map old.chart.items told, old.used, old.lent, old.chart.ok.0)) (map told new.chart.items)
+          (length-map new.chart.items told ∙ (cut.long ∙ sym (length-map old.chart.items told)))
+          (λ q l. told_at new.chart.items q ∙ (ap told (cut.before q l) ∙ sym (told_at old.chart.items q)))
+          (λ q l h. told_at new.chart.items q ∙ ap told (cut.blank q l h))
+          (λ q l. told_at new.chart.items q ∙ (ap told (cut.after q l) ∙ sym (told_at old.chart.items q))))
+
+  -- the last word is taken
+  pub taken_seen : (old new : Board) (w : Matched) → Kept a old → Recorded a w old new last → before (state_of b new) ≡ state_of a old
+  taken_seen old new w kept done = states_alike refl (subst (λ x. blanked (map told new.chart.items) x new.top ≡ map told old.chart.items) (sym (last_seen new)) places) done.limit (sym records_seen) (omega (arith, one.next)) (last_seen new ∙ (done.from ∙ sym kept.top))
+    where
+      places : blanked (map told new.chart.items) last.from new.top ≡ map told old.chart.items
+      places = blanked_is (map told new.chart.items) last.from new.top (omega (arith, done.from, done.top, kept.top)) (omega (arith, length-map new.chart.items told, new.used, new.lent, new.chart.ok.0)) (map told old.chart.items)
+          (length-map old.chart.items told ∙ (sym done.long ∙ sym (length-map new.chart.items told)))
+          (λ q l. told_at old.chart.items q ∙ (ap told (sym (done.before q (omega (arith, done.from)))) ∙ sym (told_at new.chart.items q)))
+          (λ q l h. told_at old.chart.items q ∙ ap told (kept.blank q (omega (arith, done.from, kept.top)) (omega (arith, new.used, done.limit))))
+          (λ q l. told_at old.chart.items q ∙ (ap told (sym (done.after q l)) ∙ sym (told_at new.chart.items q)))
+
+  -- the words are those before and the last
+  pub words_taken : (old new : Board) (w : Matched) → last.word ≡ w → words (state_of b new) ≡ words (state_of a old) ++ (matching w ∷ [])
+  words_taken old new w is =
+      words_seen b new ∙ (words_more book index less more n m few few' last one
+      ∙ (ap (words_with a) is ∙ ap (λ ws. ws ++ (matching w ∷ [])) (sym (words_seen a old))))
+
+-- the places that a word was refused leaves are blanked again
+module _ (s : Settled) (w : Matched) (old mid new : Board) (kept : Kept s old) (full : Crowded s w old mid) (cut : Cut mid new old.top) where
+  same_place : (q : ℕ) → at_place new q ≡ at_place old q
+  same_place q = ⊎_elim
+      (λ l. cut.before q l ∙ full.before q (omega (arith, kept.top)))
+      (λ l. ⊎_elim
+          (λ h. cut.blank q l h ∙ sym (kept.blank q l (omega (arith, mid.used, full.limit))))
+          (λ h. cut.after q h ∙ full.after q h)
+          (cases_lt q mid.top))
+      (cases_lt q old.top)
+
+  same_chart : new.chart.items ≡ old.chart.items
+  same_chart = ext_get_or blank_item new.chart.items old.chart.items (cut.long ∙ full.long) (λ q l. same_place q)
+
+  pub refused_seen : state_of s new ≡ state_of s old
+  refused_seen = states_alike refl (ap (map told) same_chart) (cut.limit ∙ full.limit) refl refl cut.top
+
+  same_standing : (from past : ℕ) (t : Item) → Standing old from past t → Standing new from past t
+  same_standing from past t x = record { place = x.place; low = x.low; high = x.high; is = same_place x.place ∙ x.is }
+
+  same_column : (k start : ℕ) (r : Record) → Column (grammar_of s) old k start r → Column (grammar_of s) new k start r
+  same_column k start r c = record {
+    begins = c.begins;
+    split = record {
+      low = c.split.low;
+      high = c.split.high;
+      unfinished = λ q low high. subst (λ (t : Item). t.done < size (grammar_of s) t.rule) (sym (same_place q)) (c.split.unfinished q low high);
+      finished = λ q low high. subst (λ (t : Item). t.done ≡ size (grammar_of s) t.rule) (sym (same_place q)) (c.split.finished q low high);
+    };
+    within = omega (arith, c.within, cut.top);
+    ends = λ q low high. ap (λ (t : Item). t.end) (same_place q) ∙ c.ends q low high;
+  }
+
+  pub refused_kept : Kept s new
+  refused_kept = record {
+    index = kept.index;
+    long = kept.long;
+    limit = (cut.limit ∙ full.limit) ∙ (kept.limit ∙ ap (λ xs. min 60000 (length xs)) (sym same_chart));
+    top = cut.top ∙ kept.top;
+    items = λ q l. subst (λ (t : Item). Held (grammar_of s) (words_of s) t.rule t.done t.start t.end) (sym (same_place q)) (kept.items q (omega (arith, cut.top)));
+    apart = λ p q l h e. kept.apart p q l (omega (arith, cut.top)) (sym (same_place p) ∙ (e ∙ same_place q));
+    all = λ r d i k h. same_standing (record_of s k).from (record_of s k).past (entry r d i k) (kept.all r d i k h);
+    wanted = kept.wanted;
+    columns = λ k some l. same_column k (past_of s (k - 1)) (record_of s k) (kept.columns k some l);
+    cleared = kept.cleared;
+    blank = λ q l h. same_place q ∙ kept.blank q (omega (arith, cut.top)) (omega (arith, cut.limit, full.limit));
+  }
