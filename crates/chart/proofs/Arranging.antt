@@ -1,16 +1,15 @@
 -- What may start after the new word, and its items with the unfinished ones in front.
-use Rattle.std.proofs.Common.{◌≡◌, ℕ, suc, ◌+◌, ◌<◌, ◌≤◌, true, false, ◌||◌, IsTrue, ◌↔◌, length, sym, refl, ap, ◌∙◌, subst, inl, inr, ⊎_elim, arith}
+use Rattle.std.proofs.Common.{◌≡◌, ℕ, suc, ◌<◌, ◌≤◌, ◌||◌, IsTrue, ◌↔◌, sym, refl, ap, ◌∙◌, subst, ⊎_elim, arith}
 use Rattle.std.proofs.lemmas.Bool.{cases_eq, cases_lt, or_left, or_right, or_cases, both_ways}
-use Rattle.language.specs.Book.{Grammar, Numbered, left, size, symbol}
+use Rattle.language.specs.Book.{Grammar, Numbered, size, symbol}
 use Rattle.language.specs.Chart.{Corner, Held, Wanted, self, down, first, next}
 use Rattle.rulebook.specs.Sets.{has}
 use Rattle.rulebook.specs.declared.sets.SymbolSet.{SymbolSet}
 use Rattle.rulebook.proofs.Holding.{holds_none}
 use Rattle.wording.specs.declared.pressed.Matched.{Matched}
 use Rattle.chart.specs.Boards.{Swapped, at_place}
-use Rattle.chart.specs.Filling.{Standing, NextCorner, HeldHere, AllStand, Complete}
+use Rattle.chart.specs.Filling.{NextCorner, HeldHere, AllStand, Complete}
 use Rattle.chart.specs.Indexes.{corners_at}
-use Rattle.chart.specs.Items.{entry}
 use Rattle.chart.specs.Ready.{Ready}
 use Rattle.chart.specs.Records.{grammar_of, words_with, used_of}
 use Rattle.chart.specs.Sifting.{Reordered, SplitAt, Sifted}
@@ -18,7 +17,7 @@ use Rattle.chart.specs.declared.boards.Board.{Board}
 use Rattle.chart.specs.declared.items.Item.{Item}
 use Rattle.chart.specs.declared.records.Settled.{Settled}
 use Rattle.chart.proofs.Plain.{Plain}
-use Rattle.chart.proofs.Entering.{plain_of, bounds}
+use Rattle.chart.proofs.Entering.{plain_of}
 
 -- the left corners of a symbol of the book are symbols that a set can hold
 pub record Known (X : ℕ) : Type 0 where
@@ -76,8 +75,7 @@ module _ (s : Settled) (w : Matched) (ready : Ready s w) where
   corners_next t X u n l is e Y =
       let p = plain_of s in
       let known : Known (symbol (grammar_of s) t.rule t.done) = record { low = p.symbol_low t.rule t.done n l; high = p.symbol_high t.rule t.done n l } in
-      let kept = subst (λ x. IsTrue (has x Y) ↔ ((1 ≤ Y) × (Y ≤ 64) × Corner (grammar_of s) (symbol (grammar_of s) t.rule t.done) Y)) (sym (e ∙ ap (corners_at s.index) is)) (ready.index.corners (symbol (grammar_of s) t.rule t.done) known.low known.high Y) in
-      (
+      let kept = subst (λ x. IsTrue (has x Y) ↔ ((1 ≤ Y) × (Y ≤ 64) × Corner (grammar_of s) (symbol (grammar_of s) t.rule t.done) Y)) (sym (e ∙ ap (corners_at s.index) is)) (ready.index.corners (symbol (grammar_of s) t.rule t.done) known.low known.high Y) in (
         λ h. record { unfinished = l; corner = (kept.0 h).2 },
         λ x. let k = corner_known (grammar_of s) p _ Y known x.corner in kept.1 (k.low, k.high, x.corner),
       )
@@ -114,9 +112,9 @@ module _ (s : Settled) (w : Matched) (ready : Ready s w) where
     came q l = ⊎_elim
         (λ e. record { from = b; inside = high; back = λ h. omega arith; is = ap (at_place new) e ∙ swap.first; there = swap.second ∙ ap (at_place old) (sym e) })
         (λ ne. ⊎_elim
-            (λ e. record { from = a; inside = omega arith; back = λ h. low; is = ap (at_place new) e ∙ swap.second; there = swap.first ∙ ap (at_place old) (sym e) })
-            (λ no. record { from = q; inside = l; back = λ h. h; is = swap.others q ne no; there = swap.others q ne no })
-            (cases_eq q b))
+        (λ e. record { from = a; inside = omega arith; back = λ h. low; is = ap (at_place new) e ∙ swap.second; there = swap.first ∙ ap (at_place old) (sym e) })
+        (λ no. record { from = q; inside = l; back = λ h. h; is = swap.others q ne no; there = swap.others q ne no })
+        (cases_eq q b))
         (cases_eq q a)
 
     differ : (p q : ℕ) → p < old.top → q < old.top → (p ≡ q → ⊥) → at_place old p ≡ at_place old q → ⊥

@@ -1,8 +1,8 @@
 -- The rules by their first symbol, linked one after another.
-use Rattle.std.proofs.Common.{◌≡◌, ℕ, suc, ◌<◌, ◌≤◌, List, length, get_or, set, sym, refl, ap, ◌∙◌, subst, ⊎_elim, arith}
+use Rattle.std.proofs.Common.{◌≡◌, ℕ, suc, ◌<◌, ◌≤◌, length, get_or, set, sym, ap, ◌∙◌, subst, ⊎_elim, arith}
 use Rattle.std.proofs.lemmas.List.{get_or-set_same, get_or-set_other}
 use Rattle.std.proofs.lemmas.Bool.{cases_eq}
-use Rattle.language.specs.Book.{Grammar, Numbered, symbol}
+use Rattle.language.specs.Book.{Grammar, symbol}
 use Rattle.chart.specs.Indexes.{LastBelow, ChainOf}
 use Rattle.chart.specs.declared.indexes.Chains.{Chains}
 

@@ -1,28 +1,31 @@
 -- How the calls of a draft change what is seen of it.
-use Rattle.std.proofs.Common.{◌≡◌, ℕ, suc, ◌+◌, ◌-◌, ◌<◌, ◌≤◌, min, List, [], ◌∷◌, ◌++◌, map, length, get_or, set, replicate, sym, refl, ap, ◌∙◌, subst, ⊎_elim, le_refl, Bor, arith}
-use Rattle.std.proofs.lemmas.List.{length-map, ext_get_or, map-set, set-set, set-get_or, get_or-set_same, get_or-set_other, length-set}
+use Rattle.std.proofs.Common.{◌≡◌, ℕ, suc, ◌-◌, ◌<◌, ◌≤◌, min, List, [], ◌∷◌, ◌++◌, map, length, get_or, set, replicate, sym, refl, ap, ◌∙◌, subst, ⊎_elim, le_refl, Bor, arith}
+use Rattle.std.proofs.lemmas.List.{length-map, ext_get_or, map-set, set-set, set-get_or}
 use Rattle.std.proofs.Math.ListN.{get_or-map}
 use Rattle.std.proofs.lemmas.Bool.{cases_lt}
 use Rattle.language.specs.Book.{Grammar, size}
-use Rattle.language.specs.Words.{Word}
 use Rattle.language.specs.Readings.{Item as Told}
 use Rattle.language.specs.Chart.{Held}
 use Rattle.soundbook.specs.declared.sounds.SoundBook.{SoundBook}
+use Rattle.rulebook.specs.Presses.{Outnumber}
+use Rattle.rulebook.specs.declared.faults.Fault.TheVariants.{ChartFull}
 use Rattle.wording.specs.declared.pressed.Matched.{Matched}
 use Rattle.chart.specs.Boards.{Cut, Fresh, at_place}
+use Rattle.chart.specs.Calls.{RubbedOut}
 use Rattle.chart.specs.Filling.{Standing}
 use Rattle.chart.specs.Items.{entry, blank_item, told, blank_told}
 use Rattle.chart.specs.Kept.{Column, Kept, Recorded, Crowded}
-use Rattle.chart.specs.Records.{grammar_of, words_of, words_with, record_of, blank_record, matching, past_of, used_of}
-use Rattle.chart.specs.States.{WordRecord, State, no_word, record_at, words, blanked, opened, before}
+use Rattle.chart.specs.Records.{grammar_of, words_of, words_with, record_of, blank_record, matching, past_of}
+use Rattle.chart.specs.States.{WordRecord, State, no_word, record_at, words, blanked, opened, before, Stands}
+use Rattle.chart.specs.Takings.{Taken, NotTaken}
 use Rattle.chart.specs.Views.{recorded, state_of}
 use Rattle.chart.specs.declared.boards.Board.{Board}
 use Rattle.chart.specs.declared.indexes.Index.{Index}
 use Rattle.chart.specs.declared.items.Item.{Item}
 use Rattle.chart.specs.declared.records.Record.{Record}
 use Rattle.chart.specs.declared.records.Settled.{Settled}
-use Rattle.chart.proofs.Keeping.{OneMore, more_of, less_of, words_more}
-use Rattle.chart.proofs.Seen.{blanked_is, words_seen, place_seen, record_seen}
+use Rattle.chart.proofs.Keeping.{OneMore, more_of, less_of, words_more, one_written, one_blanked, kept_more, kept_less}
+use Rattle.chart.proofs.Seen.{blanked_is, words_seen, record_seen, stands}
 
 -- states of the same numbers and lists are one
 states_alike : {g h : Grammar} {ps qs : List Told} {b c : ℕ} {rs ts : List WordRecord} {m n u v : ℕ} → g ≡ h → ps ≡ qs → b ≡ c → rs ≡ ts → m ≡ n → u ≡ v
@@ -95,9 +98,9 @@ module _ (s : Settled) (w : Matched) (old mid new : Board) (kept : Kept s old) (
   same_place q = ⊎_elim
       (λ l. cut.before q l ∙ full.before q (omega (arith, kept.top)))
       (λ l. ⊎_elim
-          (λ h. cut.blank q l h ∙ sym (kept.blank q l (omega (arith, mid.used, full.limit))))
-          (λ h. cut.after q h ∙ full.after q h)
-          (cases_lt q mid.top))
+      (λ h. cut.blank q l h ∙ sym (kept.blank q l (omega (arith, mid.used, full.limit))))
+      (λ h. cut.after q h ∙ full.after q h)
+      (cases_lt q mid.top))
       (cases_lt q old.top)
 
   same_chart : new.chart.items ≡ old.chart.items
@@ -136,3 +139,71 @@ module _ (s : Settled) (w : Matched) (old mid new : Board) (kept : Kept s old) (
     cleared = kept.cleared;
     blank = λ q l h. same_place q ∙ kept.blank q (omega (arith, cut.top)) (omega (arith, cut.limit, full.limit));
   }
+
+-- the last word is rubbed out of a draft
+module _ (s : Settled) (old new : Board) (kept : Kept s old) (n place : ℕ) (few : n ≤ 100) (here : place ≡ n) (some : s.held ≡ suc n) (cut : Cut old new (get_or s.records place blank_record).from) where
+  abbrev shorter : Settled
+  shorter = record { book = s.book; index = s.index; records = set s.records place blank_record; held = n; few = few }
+
+  abbrev last : Record
+  last = get_or s.records place blank_record
+
+  one_less : OneMore s.book s.index (set s.records place blank_record) s.records n s.held few s.few last
+  one_less = one_blanked s.book s.index s.records n s.held place few s.few here some kept.long
+
+  pub rubbed_kept : Kept shorter new
+  rubbed_kept = kept_less s.book s.index (set s.records place blank_record) s.records n s.held few s.few last one_less old new kept cut
+
+  last_inside : last.from ≤ old.top
+  last_inside =
+      let c = kept.columns s.held (omega (arith, some)) (le_refl s.held) in
+      let same : s.held - 1 ≡ place = omega (arith, here, some) in
+      omega (arith, ap (λ j. (get_or s.records j blank_record).from) same, ap (λ j. (get_or s.records j blank_record).past) same, c.split.low, c.split.high, c.within)
+
+  rubbed_out : RubbedOut (state_of s old) (state_of shorter new) new.top
+  rubbed_out = record {
+    some = omega (arith, some);
+    before = rubbed_seen s.book s.index (set s.records place blank_record) s.records n s.held few s.few last one_less (ap (λ j. set s.records j blank_record) here) old new last_inside cut;
+    answer = refl;
+  }
+
+  pub rubbed : (v : State) → state_of s old ≡ v → Stands (state_of shorter new) × RubbedOut v (state_of shorter new) new.top
+  rubbed v e = (stands shorter new rubbed_kept, subst (λ x. RubbedOut x (state_of shorter new) new.top) e rubbed_out)
+
+-- a word that fits is taken by a draft
+module _ (s : Settled) (w : Matched) (old new : Board) (kept : Kept s old) (r : Record) (m place : ℕ) (few : m ≤ 100) (here : place ≡ s.held) (next : m ≡ suc s.held) (done : Recorded s w old new r) where
+  abbrev longer : Settled
+  longer = record { book = s.book; index = s.index; records = set s.records place r; held = m; few = few }
+
+  one_more : OneMore s.book s.index s.records (set s.records place r) s.held m s.few few r
+  one_more = one_written s.book s.index s.records s.held m place s.few few r here next kept.long (kept.cleared s.held (le_refl s.held) (omega (arith, next)))
+
+  pub taken_kept : Kept longer new
+  taken_kept = kept_more s.book s.index s.records (set s.records place r) s.held m s.few few r one_more old new w kept done
+
+  blanked_again : s.records ≡ set (set s.records place r) s.held blank_record
+  blanked_again =
+      sym (ap (λ j. set (set s.records j r) s.held blank_record) here
+      ∙ (set-set s.records s.held r blank_record
+      ∙ (ap (set s.records s.held) (sym (kept.cleared s.held (le_refl s.held) (omega (arith, next)))) ∙ set-get_or s.records s.held blank_record)))
+
+  taken_now : Taken (state_of s old) (state_of longer new) (matching w) new.top
+  taken_now = record {
+    stands = stands longer new taken_kept;
+    words = words_taken s.book s.index s.records (set s.records place r) s.held m s.few few r one_more blanked_again old new w done.word;
+    before = taken_seen s.book s.index s.records (set s.records place r) s.held m s.few few r one_more blanked_again old new w kept done;
+    budget = done.limit;
+    answer = refl;
+  }
+
+  pub taken : (v : State) → state_of s old ≡ v → Taken v (state_of longer new) (matching w) new.top
+  taken v e = subst (λ x. Taken x (state_of longer new) (matching w) new.top) e taken_now
+
+-- a word whose items do not fit is not taken
+pub not_taken : (s : Settled) (w : Matched) (old mid new : Board) (kept : Kept s old) (full : Crowded s w old mid) (cut : Cut mid new old.top) (h : ℕ) (v : State) → h ≡ s.held → state_of s old ≡ v → NotTaken v (state_of s new) (matching w) (ChartFull h)
+not_taken s w old mid new kept full cut h v here e = subst (λ x. NotTaken x (state_of s new) (matching w) (ChartFull h)) e (record {
+  stands = stands s old kept;
+  fault = ap ChartFull here;
+  more = subst (λ ws. Outnumber (grammar_of s) old.limit (ws ++ (matching w ∷ []))) (sym (words_seen s old)) full.more;
+  same = refused_seen s w old mid new kept full cut;
+})

@@ -1,10 +1,9 @@
 -- An item is entered in the column of the new word.
-use Rattle.std.proofs.Common.{◌≡◌, ℕ, suc, ◌+◌, ◌<◌, ◌≤◌, true, ◌&&◌, ◌||◌, eqb, ◌⊎◌, List, [], ◌∷◌, ◌++◌, map, length, get_or, set, take, sym, refl, ap, ◌∙◌, subst, inl, inr, ⊎_elim, le_refl, arith}
+use Rattle.std.proofs.Common.{◌≡◌, ℕ, suc, ◌<◌, ◌≤◌, true, ◌&&◌, eqb, List, [], ◌∷◌, ◌++◌, map, length, get_or, take, sym, refl, ap, ◌∙◌, subst, inl, inr, ⊎_elim, le_refl, arith}
 use Rattle.std.proofs.lemmas.List.{length-append, length-map, length-take, length-set, get_or-set_same, get_or-set_other, get_or_append_left, get_or_at, get_or-take}
 use Rattle.std.proofs.lemmas.Bool.{cases_eq, cases_lt, or_left, or_right, or_cases, and_parts, and_from, eq-eqb, eqb-true, both_ways}
 use Rattle.std.specs.Prelude.{Result, Ok, Err, MatchResult}
 use Rattle.language.specs.Book.{Numbered, left, size, symbol}
-use Rattle.language.specs.Words.{Word}
 use Rattle.language.specs.Chart.{Held, HeldItem, Spans, begin, advance}
 use Rattle.language.specs.Columns.{InBounds}
 use Rattle.language.proofs.Columns.Bounds.{held_bounds, spans_within}
@@ -14,7 +13,7 @@ use Rattle.wording.specs.declared.pressed.Matched.{Matched}
 use Rattle.chart.specs.Boards.{Appended, Entered, NoPlace, Extends, at_place, is_marked}
 use Rattle.chart.specs.Filling.{Standing, HeldHere, Filling, Filled, Overfull}
 use Rattle.chart.specs.Items.{entry, blank_item, told}
-use Rattle.chart.specs.Marks.{InRules, Small, marked, is_item}
+use Rattle.chart.specs.Marks.{Small, marked, is_item}
 use Rattle.chart.specs.Records.{grammar_of, words_of, words_with, wanted_in, used_of, matching}
 use Rattle.soundbook.specs.Sounds.{sound_meaning}
 use Rattle.chart.specs.declared.boards.Board.{Board}
@@ -203,10 +202,10 @@ module _ (s : Settled) (w : Matched) (ready : Ready s w) where
       differ p q l k e = ⊎_elim
           (λ h. was.apart p q l h (sym (at_front p (omega arith)) ∙ (e ∙ at_front q h)))
           (λ h.
-              let last : q ≡ old.top = omega (arith, all_long) in
-              let low : p < old.top = omega arith in
-              let same : at_place old p ≡ t = sym (at_front p low) ∙ (e ∙ (ap (λ x. get_or (one_more old t) x blank_item) last ∙ at_last)) in
-              both_ways (is_marked old t) r.1.fresh (subst (λ x. is_marked old x ≡ true) same (was.marks p (new_place old t was here p same) low)))
+          let last : q ≡ old.top = omega (arith, all_long) in
+          let low : p < old.top = omega arith in
+          let same : at_place old p ≡ t = sym (at_front p low) ∙ (e ∙ (ap (λ x. get_or (one_more old t) x blank_item) last ∙ at_last)) in
+          both_ways (is_marked old t) r.1.fresh (subst (λ x. is_marked old x ≡ true) same (was.marks p (new_place old t was here p same) low)))
           (cases_lt q old.top)
 
       more : Outnumber (grammar_of s) old.limit (words_with s w)

@@ -1,10 +1,10 @@
 -- All that follows from the keys of the new word, and from what is entered.
-use Rattle.std.proofs.Common.{◌≡◌, ℕ, suc, ◌+◌, ◌-◌, ◌<◌, ◌≤◌, Bool, true, false, T, ◌&&◌, ◌||◌, eqb, List, [], ◌∷◌, ◌++◌, map, length, get_or, take, replicate, sym, refl, ap, ◌∙◌, subst, ⊎_elim, arith}
-use Rattle.std.proofs.lemmas.List.{length-append, length-map, length-take-le, get_or_at, get_or-replicate, get_or_past, length-replicate}
-use Rattle.std.proofs.lemmas.Bool.{cases_eq, cases_lt, or_left, or_right, or_cases, and_parts, and_from, eq-eqb, eqb-true, both_ways, le-leb}
-use Rattle.language.specs.Book.{Grammar, Key, Numbered, left, size, symbol}
+use Rattle.std.proofs.Common.{◌≡◌, ℕ, suc, ◌<◌, ◌≤◌, Bool, true, false, T, ◌||◌, [], length, get_or, take, replicate, sym, refl, ap, ◌∙◌, subst, ⊎_elim, arith}
+use Rattle.std.proofs.lemmas.List.{length-map, length-take-le, get_or_at, get_or-replicate, get_or_past, length-replicate}
+use Rattle.std.proofs.lemmas.Bool.{cases_eq, cases_lt, or_left, or_right, or_cases, and_parts, and_from, eq-eqb, eqb-true}
+use Rattle.language.specs.Book.{Key, left, size}
 use Rattle.language.specs.Words.{Word, blank}
-use Rattle.language.specs.Chart.{Held, Wanted, Spans, word, finished}
+use Rattle.language.specs.Chart.{Held, word, finished}
 use Rattle.language.specs.Columns.{SpansTo, Closed}
 use Rattle.language.proofs.Columns.Least.{held_least}
 use Rattle.rulebook.specs.Sets.{has, symbolic, is_symbol}
@@ -12,9 +12,9 @@ use Rattle.rulebook.specs.declared.sets.SymbolSet.{SymbolSet}
 use Rattle.rulebook.proofs.Holding.{holds_none}
 use Rattle.wording.specs.declared.pressed.Matched.{Matched}
 use Rattle.chart.specs.Boards.{Extends, at_place}
-use Rattle.chart.specs.Filling.{Standing, SpansHere, Filling, Filled, Overfull, SpanDone, KeyDone, KeysDone, PartsDone, Followed, FollowedUp, AllStand}
+use Rattle.chart.specs.Filling.{Standing, SpansHere, Filling, SpanDone, KeyDone, KeysDone, PartsDone, Followed, FollowedUp, AllStand}
 use Rattle.chart.specs.Items.{entry}
-use Rattle.chart.specs.Marks.{Small, parts_at}
+use Rattle.chart.specs.Marks.{parts_at}
 use Rattle.chart.specs.Ready.{Ready}
 use Rattle.chart.specs.Records.{grammar_of, words_of, words_with, matching, used_of}
 use Rattle.chart.specs.declared.boards.Board.{Board}
@@ -22,14 +22,14 @@ use Rattle.chart.specs.declared.items.Item.{Item}
 use Rattle.chart.specs.declared.marks.Parts.{Parts}
 use Rattle.chart.specs.declared.records.Record.{Record}
 use Rattle.chart.specs.declared.records.Settled.{Settled}
-use Rattle.chart.proofs.Entering.{plain_of, extends_itself, bounds, held_small, held_start, filled_itself}
-use Rattle.chart.proofs.Spanning.{filled_more, rule_small, next_small, span_more}
+use Rattle.chart.proofs.Entering.{plain_of, held_start}
+use Rattle.chart.proofs.Spanning.{rule_small, next_small, span_more}
 
 -- a test that says yes, told in either way
-test_passes : (b : Bool) → b ≡ true → T b
+pub test_passes : (b : Bool) → b ≡ true → T b
 test_passes b e = subst T (sym e) tt
 
-passed_test : (b : Bool) → T b → b ≡ true
+pub passed_test : (b : Bool) → T b → b ≡ true
 passed_test true h = refl
 passed_test false h = absurd h
 
@@ -109,9 +109,9 @@ module _ (s : Settled) (w : Matched) (ready : Ready s w) where
         all : PartsDone s w c new
         all Y i l h = ⊎_elim
             (λ same. ⊎_elim
-                (λ one. subst (λ x. SpanDone s w c Y x) (sym same) (subst (λ y. SpanDone s w c y t.start) (eqb-true X Y (and_parts (symbolic Y) _ one).1) span))
-                (λ two. subst (λ x. SpanDone s w c Y x) (sym same) (parts_more {a = b} {b = c} old e done Y t.start (omega arith) two))
-                (or_cases (is_symbol X Y) _ (sym (here Y) ∙ subst (λ x. has (parts_at new x) Y ≡ true) same h)))
+            (λ one. subst (λ x. SpanDone s w c Y x) (sym same) (subst (λ y. SpanDone s w c y t.start) (eqb-true X Y (and_parts (symbolic Y) _ one).1) span))
+            (λ two. subst (λ x. SpanDone s w c Y x) (sym same) (parts_more {a = b} {b = c} old e done Y t.start (omega arith) two))
+            (or_cases (is_symbol X Y) _ (sym (here Y) ∙ subst (λ x. has (parts_at new x) Y ≡ true) same h)))
             (λ ne. parts_more {a = b} {b = c} old e done Y i l (subst (λ (x : SymbolSet). has x Y ≡ true) (others i ne) h))
             (cases_eq i t.start)
 

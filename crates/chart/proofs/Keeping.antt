@@ -1,22 +1,20 @@
 -- What a draft keeps, from one word to the next and back.
-use Rattle.std.proofs.Common.{◌≡◌, ℕ, zero, suc, ◌+◌, ◌-◌, ◌<◌, ◌≤◌, true, false, IsTrue, ◌↔◌, if◌then◌else◌, eqb, min, List, [], ◌∷◌, ◌++◌, map, length, get_or, set, take, replicate, sym, refl, ap, ◌∙◌, subst, inl, inr, ⊎_elim, le_refl, Bor, arith}
-use Rattle.std.proofs.lemmas.List.{length-append, length-map, length-take-le, take_more, get_or-take, get_or-replicate, length-replicate, ext_get_or, map-append}
-use Rattle.std.proofs.lemmas.Bool.{cases_eq, cases_lt, both_ways, eq-eqb, ne_eqb, cond-true, cond-false}
-use Rattle.language.specs.Book.{Grammar, Numbered, left, size}
-use Rattle.language.specs.Words.{Word}
-use Rattle.language.specs.Chart.{Corner, Held, Wanted, first, next}
+use Rattle.std.proofs.Common.{◌≡◌, ℕ, zero, suc, ◌-◌, ◌<◌, ◌≤◌, IsTrue, ◌↔◌, eqb, min, List, [], ◌∷◌, ◌++◌, map, length, get_or, set, take, replicate, sym, refl, ap, ◌∙◌, subst, ⊎_elim, le_refl, Bor, arith}
+use Rattle.std.proofs.lemmas.List.{length-take-le, take_more, get_or-take, get_or-replicate, length-replicate, length-set, get_or-set_same, get_or-set_other, ext_get_or, map-append}
+use Rattle.std.proofs.lemmas.Bool.{cases_eq, cases_lt, ne_eqb, cond-false}
+use Rattle.language.specs.Book.{size}
+use Rattle.language.specs.Chart.{Held, Wanted, first, next}
 use Rattle.rulebook.specs.Sets.{has}
 use Rattle.soundbook.specs.Corners.{CornersOf}
 use Rattle.rulebook.specs.declared.sets.SymbolSet.{SymbolSet}
 use Rattle.soundbook.specs.declared.sounds.SoundBook.{SoundBook}
 use Rattle.wording.specs.declared.pressed.Matched.{Matched}
 use Rattle.chart.specs.Boards.{Cut, Fresh, at_place}
-use Rattle.chart.specs.Filling.{Standing, HeldHere, Complete}
+use Rattle.chart.specs.Filling.{Standing}
 use Rattle.chart.specs.Indexes.{IndexOf, corners_at}
-use Rattle.chart.specs.Items.{entry, blank_item}
+use Rattle.chart.specs.Items.{entry}
 use Rattle.chart.specs.Kept.{Column, Kept, Recorded}
-use Rattle.chart.specs.Records.{grammar_of, words_of, words_with, record_of, blank_record, matching, wanted_in, past_of, used_of}
-use Rattle.chart.specs.Sifting.{SplitAt}
+use Rattle.chart.specs.Records.{grammar_of, words_of, words_with, record_of, blank_record, matching, wanted_in, past_of}
 use Rattle.chart.specs.declared.boards.Board.{Board}
 use Rattle.chart.specs.declared.indexes.Index.{Index}
 use Rattle.chart.specs.declared.items.Item.{Item}
@@ -82,11 +80,11 @@ module _ (s : Settled) (b : Board) (kept : Kept s b) where
 
       low : (at_place b q).end < (at_place b p).end → (record_of s (at_place b q).end).past ≤ (record_of s (at_place b p).end).from
       low k = omega (
-          arith,
-          past_after s (at_place b q).end y.some,
-          past_rises (at_place b q).end ((at_place b p).end - 1) (omega arith) (omega (arith, x.few)),
-          (kept.columns (at_place b p).end x.some x.few).begins,
-        )
+        arith,
+        past_after s (at_place b q).end y.some,
+        past_rises (at_place b q).end ((at_place b p).end - 1) (omega arith) (omega (arith, x.few)),
+        (kept.columns (at_place b p).end x.some x.few).begins,
+      )
 
 -- a draft of one word fewer, and one of one word more
 module _ (book : Bor SoundBook) (index : Index) (less more : List Record) (n m : ℕ) (few : n ≤ 100) (few' : m ≤ 100) (last : Record) where
@@ -175,54 +173,52 @@ module _ (book : Bor SoundBook) (index : Index) (less more : List Record) (n m :
       more_all : (r d i k : ℕ) → Held (grammar_of less_of) (words_of more_of) r d i k → Standing new (record_of more_of k).from (record_of more_of k).past (entry r d i k)
       more_all r d i k h = ⊎_elim
           (λ e.
-              let here : k ≡ suc n = omega (arith, one.next) in
-              let x = done.complete.all r d i (subst (λ ws. Held (grammar_of less_of) ws r d i (suc n)) (sym same_word) (subst (Held (grammar_of less_of) (words_of more_of) r d i) here h)) in
-              subst (λ (y : Record). Standing new y.from y.past (entry r d i k)) (sym (last_record k e))
-              (record { place = x.place; low = omega (arith, done.from, x.low); high = omega (arith, done.past, x.high); is = x.is ∙ ap (entry r d i) (sym here) }))
+          let here : k ≡ suc n = omega (arith, one.next) in
+          let x = done.complete.all r d i (subst (λ ws. Held (grammar_of less_of) ws r d i (suc n)) (sym same_word) (subst (Held (grammar_of less_of) (words_of more_of) r d i) here h)) in
+          subst (λ (y : Record). Standing new y.from y.past (entry r d i k)) (sym (last_record k e))
+          (record { place = x.place; low = omega (arith, done.from, x.low); high = omega (arith, done.past, x.high); is = x.is ∙ ap (entry r d i) (sym here) }))
           (λ ne.
-              let early : k ≤ n = omega (arith, one.next, kept_end more_of one.more_long r d i k h) in
-              let some : 1 ≤ k = omega (arith, (kept_bounds more_of r d i k h).forward) in
-              let x = kept.all r d i k (held_less r d i k early h) in
-              let inside = (kept.columns k some early).within in
-              subst (λ (y : Record). Standing new y.from y.past (entry r d i k)) (sym (same_records k some early))
-              (record { place = x.place; low = x.low; high = x.high; is = same_place x.place (omega (arith, inside, x.high)) ∙ x.is }))
+          let early : k ≤ n = omega (arith, one.next, kept_end more_of one.more_long r d i k h) in
+          let some : 1 ≤ k = omega (arith, (kept_bounds more_of r d i k h).forward) in
+          let x = kept.all r d i k (held_less r d i k early h) in
+          let inside = (kept.columns k some early).within in
+          subst (λ (y : Record). Standing new y.from y.past (entry r d i k)) (sym (same_records k some early))
+          (record { place = x.place; low = x.low; high = x.high; is = same_place x.place (omega (arith, inside, x.high)) ∙ x.is }))
           (cases_eq k m)
 
       more_wanted : (j Y : ℕ) → j ≤ m → IsTrue (has (wanted_in more_of j) Y) ↔ Wanted (grammar_of less_of) (words_of more_of) j Y
       more_wanted j Y l = ⊎_elim
           (λ e.
-              let here : suc n ≡ j = omega (arith, one.next) in
-              let set_is : wanted_in more_of j ≡ last.wanted = wanted_after more_of j (omega (arith, one.next)) ∙ ap (λ (r : Record). r.wanted) (last_record j e) in
-              let k = done.wanted Y in
-              (
-                λ h. subst (λ ws. Wanted (grammar_of less_of) ws j Y) same_word (subst (λ x. Wanted (grammar_of less_of) (words_with less_of w) x Y) here (k.0 (subst (λ (x : SymbolSet). IsTrue (has x Y)) set_is h))),
-                λ h. subst (λ (x : SymbolSet). IsTrue (has x Y)) (sym set_is) (k.1 (subst (λ x. Wanted (grammar_of less_of) (words_with less_of w) x Y) (sym here) (subst (λ ws. Wanted (grammar_of less_of) ws j Y) (sym same_word) h))),
-              ))
+          let here : suc n ≡ j = omega (arith, one.next) in
+          let set_is : wanted_in more_of j ≡ last.wanted = wanted_after more_of j (omega (arith, one.next)) ∙ ap (λ (r : Record). r.wanted) (last_record j e) in
+          let k = done.wanted Y in (
+            λ h. subst (λ ws. Wanted (grammar_of less_of) ws j Y) same_word (subst (λ x. Wanted (grammar_of less_of) (words_with less_of w) x Y) here (k.0 (subst (λ (x : SymbolSet). IsTrue (has x Y)) set_is h))),
+            λ h. subst (λ (x : SymbolSet). IsTrue (has x Y)) (sym set_is) (k.1 (subst (λ x. Wanted (grammar_of less_of) (words_with less_of w) x Y) (sym here) (subst (λ ws. Wanted (grammar_of less_of) ws j Y) (sym same_word) h))),
+          ))
           (λ ne.
-              let early : j ≤ n = omega (arith, one.next) in
-              let k = kept.wanted j Y early in
-              (
-                λ h. wanted_more j Y early (k.0 (subst (λ (x : SymbolSet). IsTrue (has x Y)) (same_wanted j early) h)),
-                λ h. subst (λ (x : SymbolSet). IsTrue (has x Y)) (sym (same_wanted j early)) (k.1 (wanted_less j Y early h)),
-              ))
+          let early : j ≤ n = omega (arith, one.next) in
+          let k = kept.wanted j Y early in (
+            λ h. wanted_more j Y early (k.0 (subst (λ (x : SymbolSet). IsTrue (has x Y)) (same_wanted j early) h)),
+            λ h. subst (λ (x : SymbolSet). IsTrue (has x Y)) (sym (same_wanted j early)) (k.1 (wanted_less j Y early h)),
+          ))
           (cases_eq j m)
 
       more_column : (k : ℕ) → 1 ≤ k → k ≤ m → Column (grammar_of less_of) new k (past_of more_of (k - 1)) (record_of more_of k)
       more_column k some l = ⊎_elim
           (λ e.
-              let before : k - 1 ≡ n = omega (arith, one.next) in
-              subst (Column (grammar_of less_of) new k (past_of more_of (k - 1))) (sym (last_record k e)) (record {
-                begins = done.from ∙ (sym (same_past n (le_refl n)) ∙ ap (past_of more_of) (sym before));
-                split = done.split;
-                within = omega (arith, done.past);
-                ends = λ q low high. done.complete.column q (omega (arith, done.from)) (omega (arith, done.past)) ∙ omega (arith, one.next);
-              }))
+          let before : k - 1 ≡ n = omega (arith, one.next) in
+          subst (Column (grammar_of less_of) new k (past_of more_of (k - 1))) (sym (last_record k e)) (record {
+            begins = done.from ∙ (sym (same_past n (le_refl n)) ∙ ap (past_of more_of) (sym before));
+            split = done.split;
+            within = omega (arith, done.past);
+            ends = λ q low high. done.complete.column q (omega (arith, done.from)) (omega (arith, done.past)) ∙ omega (arith, one.next);
+          }))
           (λ ne.
-              let early : k ≤ n = omega (arith, one.next) in
-              let c = kept.columns k some early in
-              subst (Column (grammar_of less_of) new k (past_of more_of (k - 1))) (sym (same_records k some early))
-              (subst (λ x. Column (grammar_of less_of) new k x (record_of less_of k)) (sym (same_past (k - 1) (omega arith)))
-              (same_column old new k (past_of less_of (k - 1)) (record_of less_of k) (λ q high. same_place q (omega (arith, c.within))) (omega (arith, c.within, done.top)) c)))
+          let early : k ≤ n = omega (arith, one.next) in
+          let c = kept.columns k some early in
+          subst (Column (grammar_of less_of) new k (past_of more_of (k - 1))) (sym (same_records k some early))
+          (subst (λ x. Column (grammar_of less_of) new k x (record_of less_of k)) (sym (same_past (k - 1) (omega arith)))
+          (same_column old new k (past_of less_of (k - 1)) (record_of less_of k) (λ q high. same_place q (omega (arith, c.within))) (omega (arith, c.within, done.top)) c)))
           (cases_eq k m)
 
       pub kept_more : Kept more_of new
@@ -259,13 +255,13 @@ module _ (book : Bor SoundBook) (index : Index) (less more : List Record) (n m :
       -- the columns before end where the last begins
       column_before : (k : ℕ) → 1 ≤ k → k ≤ n → (record_of less_of k).past ≤ last.from
       column_before k some l = omega (
-          arith,
-          from_last,
-          past_after less_of k some,
-          same_past k l,
-          same_past n (le_refl n),
-          past_rises more_of old kept k n l (omega (arith, one.next)),
-        )
+        arith,
+        from_last,
+        past_after less_of k some,
+        same_past k l,
+        same_past n (le_refl n),
+        past_rises more_of old kept k n l (omega (arith, one.next)),
+      )
 
       -- an item that stands before the last column ends before the last word
       ends_before : (q : ℕ) → q < last.from → (at_place old q).end ≤ n
@@ -319,6 +315,29 @@ module _ (book : Bor SoundBook) (index : Index) (less more : List Record) (n m :
             (λ k. cut.after q k ∙ kept.blank q k (omega (arith, cut.limit)))
             (cases_lt q old.top);
       }
+
+-- a record is written behind those of the words held, or the last is blanked
+pub one_written : (book : Bor SoundBook) (index : Index) (less : List Record) (n m place : ℕ) (few : n ≤ 100) (few' : m ≤ 100) (r : Record) → place ≡ n → m ≡ suc n → length less ≡ 100 → get_or less n blank_record ≡ blank_record
+    → OneMore book index less (set less place r) n m few few' r
+one_written book index less n m place few few' r here after long none = record {
+  next = after;
+  less_long = long;
+  more_long = length-set less place r ∙ long;
+  others = λ j ne. get_or-set_other less place j r blank_record (λ e. ne (omega (arith, e)));
+  here = ap (λ j. get_or (set less place r) j blank_record) (sym here) ∙ get_or-set_same less place r blank_record (omega arith);
+  none = none;
+}
+
+pub one_blanked : (book : Bor SoundBook) (index : Index) (more : List Record) (n m place : ℕ) (few : n ≤ 100) (few' : m ≤ 100) → place ≡ n → m ≡ suc n → length more ≡ 100
+    → OneMore book index (set more place blank_record) more n m few few' (get_or more place blank_record)
+one_blanked book index more n m place few few' here after long = record {
+  next = after;
+  less_long = length-set more place blank_record ∙ long;
+  more_long = long;
+  others = λ j ne. sym (get_or-set_other more place j blank_record blank_record (λ e. ne (omega (arith, e))));
+  here = ap (λ j. get_or more j blank_record) (sym here);
+  none = ap (λ j. get_or (set more place blank_record) j blank_record) (sym here) ∙ get_or-set_same more place blank_record blank_record (omega arith);
+}
 
 -- a new draft keeps nothing
 module _ (s : Settled) (b : Board) (lent : List Item) (index : IndexOf (grammar_of s) s.index) (records : s.records ≡ replicate 100 blank_record) (held : s.held ≡ 0) (fresh : Fresh lent b) where

@@ -8,6 +8,8 @@ pub mod Marking
 pub mod Places
 pub mod Plain
 pub mod Arranging
+pub mod Pressing
 pub mod Seen
+pub mod Spanned
 pub mod Spanning
 pub mod Starting

@@ -1,8 +1,8 @@
 -- The bounds of a sound book, which are told by numbers alone.
-use Rattle.std.proofs.Common.{◌≡◌, ℕ, ◌+◌, ◌<◌, ◌≤◌, length, ⊎_elim, arith}
+use Rattle.std.proofs.Common.{ℕ, ◌+◌, ◌<◌, ◌≤◌, length, ⊎_elim, arith}
 use mathlib.Core.Logic.{∥∥₁_elim}
 use native.Mathlib.Bridge.{le_prop}
-use Rattle.language.specs.Book.{Grammar, Meaning, Key, Numbered, left, size, symbol}
+use Rattle.language.specs.Book.{Grammar, Meaning, Numbered, left, size, symbol}
 use Rattle.language.specs.Sound.{Sound}
 
 -- a rule has 1 to 6 symbols of the book and turns a part, and there are few of everything

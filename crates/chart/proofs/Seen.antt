@@ -1,21 +1,19 @@
 -- What is seen of a draft, told by what it keeps.
-use Rattle.std.proofs.Common.{◌≡◌, ℕ, zero, suc, ◌+◌, ◌-◌, ◌<◌, ◌≤◌, IsTrue, ◌↔◌, min, List, [], ◌∷◌, ◌++◌, map, length, get_or, set, take, drop, replicate, sym, refl, ap, ◌∙◌, subst, ⊎_elim, le_refl, arith}
-use Rattle.std.proofs.lemmas.List.{length-append, length-map, length-take, length-take-le, length-drop, length-replicate, length-set, get_or-take, get_or-drop, get_or-replicate, get_or_append_left, get_or-append_right, get_or_past, ext_get_or, map-set, take-map}
+use Rattle.std.proofs.Common.{◌≡◌, ℕ, ◌-◌, ◌<◌, ◌≤◌, IsTrue, ◌↔◌, min, List, [], ◌∷◌, ◌++◌, map, length, get_or, take, drop, replicate, sym, refl, ap, ◌∙◌, subst, ⊎_elim, arith}
+use Rattle.std.proofs.lemmas.List.{length-append, length-map, length-take-le, length-drop, length-replicate, get_or-take, get_or-drop, get_or-replicate, get_or_append_left, get_or-append_right, ext_get_or, take-map}
 use Rattle.std.proofs.Math.ListN.{get_or-map}
-use Rattle.std.proofs.lemmas.Bool.{cases_eq, cases_lt}
-use Rattle.std.specs.List.{AllByRecursion}
-use Rattle.language.specs.Words.{Word}
-use Rattle.language.specs.Readings.{Item as Told, item}
-use Rattle.language.specs.Chart.{Held, HeldItem, Wanted}
+use Rattle.std.proofs.lemmas.Bool.{cases_lt}
+use Rattle.language.specs.Readings.{Item as Told}
+use Rattle.language.specs.Chart.{HeldItem, Wanted}
 use Rattle.language.specs.Columns.{Among}
 use Rattle.language.specs.Drafts.{Items}
 use Rattle.rulebook.specs.Sets.{has}
 use Rattle.rulebook.specs.declared.sets.SymbolSet.{SymbolSet}
 use Rattle.chart.specs.Boards.{at_place}
-use Rattle.chart.specs.Items.{entry, blank_item, told, blank_told}
-use Rattle.chart.specs.Kept.{Column, Kept}
-use Rattle.chart.specs.Records.{grammar_of, words_of, record_of, blank_record, matching, wanted_in, past_of}
-use Rattle.chart.specs.States.{WordRecord, State, no_word, record_at, words, in_use, place, blanked, RecordIs, Stands}
+use Rattle.chart.specs.Items.{blank_item, told, blank_told}
+use Rattle.chart.specs.Kept.{Kept}
+use Rattle.chart.specs.Records.{grammar_of, words_of, record_of, blank_record, matching}
+use Rattle.chart.specs.States.{WordRecord, record_at, words, in_use, place, blanked, RecordIs, Stands}
 use Rattle.chart.specs.Views.{recorded, state_of}
 use Rattle.chart.specs.declared.boards.Board.{Board}
 use Rattle.chart.specs.declared.items.Item.{Item}
@@ -32,13 +30,13 @@ module _ (ts : List Told) (from past : ℕ) (order : from ≤ past) (inside : pa
 
   pub blanked_long : length (blanked ts from past) ≡ length ts
   blanked_long = omega (
-      arith,
-      length-append (take from ts) (replicate (past - from) blank_told ++ drop past ts),
-      length-append (replicate (past - from) blank_told) (drop past ts),
-      length-replicate (past - from) blank_told,
-      length-drop past ts,
-      front_long,
-    )
+    arith,
+    length-append (take from ts) (replicate (past - from) blank_told ++ drop past ts),
+    length-append (replicate (past - from) blank_told) (drop past ts),
+    length-replicate (past - from) blank_told,
+    length-drop past ts,
+    front_long,
+  )
 
   blanked_before : (q : ℕ) → q < from → get_or (blanked ts from past) q blank_told ≡ get_or ts q blank_told
   blanked_before q l = get_or_append_left (take from ts) (replicate (past - from) blank_told ++ drop past ts) blank_told q (omega (arith, front_long)) ∙ get_or-take from ts q blank_told l
@@ -61,9 +59,9 @@ module _ (ts : List Told) (from past : ℕ) (order : from ≤ past) (inside : pa
   blanked_is us long before here after = ext_get_or blank_told (blanked ts from past) us (blanked_long ∙ sym long) (λ q l. ⊎_elim
       (λ h. blanked_before q h ∙ sym (before q h))
       (λ h. ⊎_elim
-          (λ k. blanked_here q h k ∙ sym (here q h k))
-          (λ k. blanked_after q k ∙ sym (after q k))
-          (cases_lt q past))
+      (λ k. blanked_here q h k ∙ sym (here q h k))
+      (λ k. blanked_after q k ∙ sym (after q k))
+      (cases_lt q past))
       (cases_lt q from))
 
 -- the words, places and records as they are seen

@@ -1,22 +1,21 @@
 -- All that follows from a symbol that spans, rule by rule and item by item.
-use Rattle.std.proofs.Common.{◌≡◌, ℕ, zero, suc, ◌+◌, ◌<◌, ◌≤◌, true, length, get_or, sym, refl, ap, ◌∙◌, subst, ⊎_elim, arith}
+use Rattle.std.proofs.Common.{◌≡◌, ℕ, suc, ◌<◌, ◌≤◌, length, sym, ap, ◌∙◌, subst, ⊎_elim, arith}
 use Rattle.std.specs.Prelude.{Result, MatchResult}
 use Rattle.std.proofs.lemmas.List.{get_or_past}
 use Rattle.std.proofs.lemmas.Bool.{cases_eq, cases_lt}
-use Rattle.language.specs.Book.{Grammar, Numbered, left, right, size, symbol}
+use Rattle.language.specs.Book.{Numbered, right, size, symbol}
 use Rattle.language.specs.Chart.{Held, Spans, word, finished}
 use Rattle.wording.specs.declared.pressed.Matched.{Matched}
 use Rattle.chart.specs.Boards.{Extends, Entered, NoPlace, at_place}
-use Rattle.chart.specs.Filling.{Standing, SpansHere, Filling, Filled, Overfull, RuleBegun, AllBegun, ItemAdvanced, AllAdvanced, SpanDone}
+use Rattle.chart.specs.Filling.{SpansHere, Filling, Filled, Overfull, RuleBegun, AllBegun, ItemAdvanced, AllAdvanced, SpanDone}
 use Rattle.chart.specs.Indexes.{LastBelow}
 use Rattle.chart.specs.Items.{entry}
-use Rattle.chart.specs.Marks.{InRules, Small, marked}
+use Rattle.chart.specs.Marks.{Small}
 use Rattle.chart.specs.Ready.{Ready}
 use Rattle.chart.specs.Records.{grammar_of, words_with, record_of}
 use Rattle.chart.specs.declared.boards.Board.{Board}
 use Rattle.chart.specs.declared.items.Item.{Item}
 use Rattle.chart.specs.declared.records.Settled.{Settled}
-use Rattle.chart.proofs.Plain.{Plain}
 use Rattle.chart.proofs.Entering.{plain_of, extends_more, held_small, span_start, bounds, item_entered, advanced_held}
 
 module _ (s : Settled) (w : Matched) where
@@ -155,7 +154,7 @@ module _ (s : Settled) (w : Matched) (ready : Ready s w) where
       → AdvancedTo s w first a (record_of s i).from at X → ItemAdvanced s w b (at_place a at) X → AdvancedTo s w first b (record_of s i).from (suc at) X
   advanced_next {a} {b} first i at X was some l high known from e before here q low h = ⊎_elim
       (λ same.
-          let c = was.columns i q some l low (omega arith) in
-          subst (λ (t : Item). ItemAdvanced s w b t X) (from.before q (omega (arith, c.0, was.begins))) (subst (λ p. ItemAdvanced s w b (at_place a p) X) (sym same) here))
+      let c = was.columns i q some l low (omega arith) in
+      subst (λ (t : Item). ItemAdvanced s w b t X) (from.before q (omega (arith, c.0, was.begins))) (subst (λ p. ItemAdvanced s w b (at_place a p) X) (sym same) here))
       (λ ne. advanced_more {a = a} {b = b} first i q X was some l low (omega arith) known e (before q low (omega arith)))
       (cases_eq q at)

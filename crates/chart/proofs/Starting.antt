@@ -1,18 +1,17 @@
 -- A press starts from what the draft keeps.
-use Rattle.std.proofs.Common.{◌≡◌, ℕ, suc, ◌<◌, ◌≤◌, true, false, List, [], ◌∷◌, ◌++◌, map, length, get_or, take, sym, refl, ap, ◌∙◌, subst, ⊎_elim, le_refl, arith}
+use Rattle.std.proofs.Common.{◌≡◌, ℕ, suc, ◌<◌, ◌≤◌, [], ◌∷◌, length, get_or, take, sym, ap, ◌∙◌, subst, ⊎_elim, arith}
 use Rattle.std.proofs.lemmas.List.{length-map, length-take-le, take-append-le}
 use Rattle.std.proofs.lemmas.Bool.{cases_lt, both_ways}
-use Rattle.language.specs.Book.{Numbered, size}
-use Rattle.language.specs.Words.{Word}
+use Rattle.language.specs.Book.{size}
 use Rattle.language.specs.Chart.{Held, Wanted}
 use Rattle.language.specs.Columns.{InBounds}
 use Rattle.language.proofs.Columns.Bounds.{held_bounds}
 use Rattle.language.proofs.Columns.Local.{held_local, wanted_local}
 use Rattle.wording.specs.declared.pressed.Matched.{Matched}
 use Rattle.chart.specs.Boards.{Extends, Unmarked, at_place}
-use Rattle.chart.specs.Filling.{Standing, HeldHere, Waits, Filling}
-use Rattle.chart.specs.Items.{entry, blank_item}
-use Rattle.chart.specs.Kept.{Column, Kept, Recorded}
+use Rattle.chart.specs.Filling.{HeldHere, Waits, Filling}
+use Rattle.chart.specs.Items.{blank_item}
+use Rattle.chart.specs.Kept.{Kept, Recorded}
 use Rattle.chart.specs.Ready.{Ready}
 use Rattle.chart.specs.Records.{grammar_of, words_of, words_with, record_of, matching, used_of}
 use Rattle.chart.specs.declared.boards.Board.{Board}

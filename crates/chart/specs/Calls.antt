@@ -1,5 +1,5 @@
 -- What the calls of a draft answer, and what they leave.
-use Rattle.std.specs.Prelude.{◌≡◌, ℕ, ◌<◌, ◌≤◌, List, [], ◌∷◌, ◌++◌, IsTrue, ◌↔◌, count_ones}
+use Rattle.std.specs.Prelude.{◌≡◌, ℕ, ◌≤◌, [], ◌∷◌, ◌++◌, IsTrue, ◌↔◌, count_ones}
 use Rattle.language.specs.Words.{Word}
 use Rattle.language.specs.Drafts.{Lit}
 use Rattle.rulebook.specs.Presses.{PressRefused, PressTaken}

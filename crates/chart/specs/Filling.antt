@@ -1,5 +1,5 @@
 -- How the column of a word that is being pressed is filled.
-use Rattle.std.specs.Prelude.{◌≡◌, ℕ, suc, ◌<◌, ◌≤◌, true, IsTrue}
+use Rattle.std.specs.Prelude.{◌≡◌, ℕ, suc, ◌<◌, ◌≤◌, true}
 use Rattle.language.specs.Book.{Grammar, Key, Numbered, left, size, symbol}
 use Rattle.language.specs.Chart.{Corner, Wanted, Held, Spans}
 use Rattle.rulebook.specs.Presses.{Outnumber}

@@ -1,6 +1,6 @@
 -- What an index of a book holds.
 use Rattle.std.specs.Prelude.{◌≡◌, ℕ, suc, ◌<◌, ◌≤◌, List, length, slice_index, slice_index_or}
-use Rattle.language.specs.Book.{Grammar, Numbered, symbol}
+use Rattle.language.specs.Book.{Grammar, symbol}
 use Rattle.soundbook.specs.Corners.{CornersOf}
 use Rattle.rulebook.specs.declared.sets.SymbolSet.{SymbolSet}
 use Rattle.chart.specs.declared.indexes.Chains.{Chains}

@@ -12,7 +12,6 @@ use Rattle.chart.specs.Items.{entry, blank_item}
 use Rattle.chart.specs.Records.{grammar_of, words_of, words_with, record_of, blank_record, wanted_in, past_of, used_of}
 use Rattle.chart.specs.Sifting.{SplitAt}
 use Rattle.chart.specs.declared.boards.Board.{Board}
-use Rattle.chart.specs.declared.items.Item.{Item}
 use Rattle.chart.specs.declared.records.Record.{Record}
 use Rattle.chart.specs.declared.records.Settled.{Settled}
 

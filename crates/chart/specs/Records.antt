@@ -1,5 +1,5 @@
 -- What is settled before a word is pressed.
-use Rattle.std.specs.Prelude.{◌≡◌, ℕ, ◌+◌, ◌-◌, Bool, if◌then◌else◌, ◌==◌, List, [], ◌∷◌, ◌++◌, map, take, slice_index_or}
+use Rattle.std.specs.Prelude.{ℕ, ◌-◌, if◌then◌else◌, ◌==◌, List, [], ◌∷◌, ◌++◌, map, take, slice_index_or}
 use Rattle.language.specs.Book.{Grammar}
 use Rattle.language.specs.Words.{Word}
 use Rattle.rulebook.specs.Sets.{has}

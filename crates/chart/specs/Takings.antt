@@ -1,8 +1,6 @@
 -- What becomes of a word that matches a lit key.
 use Rattle.std.specs.Prelude.{◌≡◌, ℕ, [], ◌∷◌, ◌++◌}
 use Rattle.language.specs.Words.{Word}
-use Rattle.language.specs.Readings.{Item}
-use Rattle.language.specs.Drafts.{Items}
 use Rattle.rulebook.specs.Presses.{Outnumber}
 use Rattle.rulebook.specs.declared.faults.Fault.{Fault}
 use Rattle.rulebook.specs.declared.faults.Fault.TheVariants.{ChartFull}

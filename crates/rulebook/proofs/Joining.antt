@@ -1,8 +1,8 @@
 -- What masks hold that are joined, and the masks of no symbol and of all keys.
-use Rattle.std.proofs.Common.{◌≡◌, ℕ, zero, suc, ◌-◌, ◌/◌, ◌%◌, ◌^◌, ◌<◌, ◌≤◌, Bool, true, false, max, min, ◌&&◌, ◌||◌, eqb, leb, sym, refl, ap, ◌∙◌, ⊎_elim, arith}
+use Rattle.std.proofs.Common.{◌≡◌, ℕ, zero, suc, ◌-◌, ◌/◌, ◌%◌, ◌^◌, ◌<◌, Bool, true, false, max, min, ◌&&◌, ◌||◌, eqb, leb, sym, refl, ap, ◌∙◌, ⊎_elim, arith}
 use lib.Bits.{bit_or, bit_and}
 use Rattle.std.proofs.lemmas.Nat.Bits.{bit_at_or, bit_at_and, bit_at-lt, bit_at-zero, bit_at_mask_inside, bit_at_mask_below, same_from_bits_below}
-use Rattle.std.proofs.lemmas.Bool.{le-leb, lt-leb, leb-true, eqb-true, both_ways, cases_Bool, cases_lt, and_from, and_left, and_right, and_parts}
+use Rattle.std.proofs.lemmas.Bool.{le-leb, lt-leb, leb-true, both_ways, cases_Bool, cases_lt, and_from, and_left, and_right, and_parts}
 use Rattle.language.specs.Masks.{bit}
 use Rattle.rulebook.specs.Sets.{holds, symbolic, key_number}
 
@@ -74,14 +74,14 @@ holds_keys c = ⊎_elim symbol none (cases_Bool (symbolic c))
         let high = leb-true c 64 parts.1 in
         ap (λ b. b && eqb (18446744069414584320 / 2 ^ (c - 1) % 2) 1) h
         ∙ ⊎_elim
-            (λ l. ap (λ x. eqb x 1) (bit_at_mask_below 32 64 (c - 1) (omega arith)) ∙ sym (and_left _ _ (lt-leb 33 c l)))
-            (λ l. ap (λ x. eqb x 1) (bit_at_mask_inside 32 64 (c - 1) (omega arith) (omega arith)) ∙ sym (and_from _ _ (le-leb 33 c l) parts.1))
-            (cases_lt c 33)
+        (λ l. ap (λ x. eqb x 1) (bit_at_mask_below 32 64 (c - 1) (omega arith)) ∙ sym (and_left _ _ (lt-leb 33 c l)))
+        (λ l. ap (λ x. eqb x 1) (bit_at_mask_inside 32 64 (c - 1) (omega arith) (omega arith)) ∙ sym (and_from _ _ (le-leb 33 c l) parts.1))
+        (cases_lt c 33)
 
     none : symbolic c ≡ false → (symbolic c && eqb (18446744069414584320 / 2 ^ (c - 1) % 2) 1) ≡ key_number c
     none h =
         ap (λ b. b && eqb (18446744069414584320 / 2 ^ (c - 1) % 2) 1) h
         ∙ ⊎_elim
-            (λ l. sym (and_left _ _ (lt-leb 33 c (omega arith))))
-            (λ l. ⊎_elim (λ k. sym (and_right _ _ (lt-leb c 64 k))) (λ k. absurd (both_ways (symbolic c) h (and_from _ _ (le-leb 1 c l) (le-leb c 64 (omega arith))))) (cases_lt 64 c))
-            (cases_lt c 1)
+        (λ l. sym (and_left _ _ (lt-leb 33 c (omega arith))))
+        (λ l. ⊎_elim (λ k. sym (and_right _ _ (lt-leb c 64 k))) (λ k. absurd (both_ways (symbolic c) h (and_from _ _ (le-leb 1 c l) (le-leb c 64 (omega arith))))) (cases_lt 64 c))
+        (cases_lt c 1)

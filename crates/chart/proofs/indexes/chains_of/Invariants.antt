@@ -1,4 +1,4 @@
-use Rattle.std.proofs.Common.{◌≡◌, ℕ, ◌+◌, length}
+use Rattle.std.proofs.Common.{◌≡◌, ◌+◌, length}
 use Rattle.soundbook.specs.Sounds.{sound_meaning}
 use Rattle.chart.specs.Indexes.{ChainOf}
 use Rattle.chart.proofs.indexes.chains_of.Given as goal

@@ -1,6 +1,5 @@
-use Rattle.std.proofs.Common.{◌≡◌, suc, ◌+◌, sym, ◌∙◌, ap, subst, add-one, arith}
+use Rattle.std.proofs.Common.{sym, ◌∙◌, ap, add-one, arith}
 use Rattle.language.specs.Book.{symbol}
-use Rattle.chart.specs.Marks.{Small}
 use Rattle.chart.specs.Records.{grammar_of}
 use Rattle.chart.specs.declared.items.Item.{Item}
 use Rattle.chart.proofs.Entering.{filled_itself, span_start}

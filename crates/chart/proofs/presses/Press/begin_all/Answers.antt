@@ -2,8 +2,6 @@ use Rattle.std.proofs.Common.{◌≡◌, ◌≤◌, sym, subst, arith}
 use Rattle.chart.proofs.Entering.{plain_of, filled_itself, span_start}
 use Rattle.chart.proofs.Spanning.{BegunDown, filled_more, span_high, down_start, down_next, down_end}
 use Rattle.chart.specs.Indexes.{LastBelow}
-use Rattle.chart.specs.Records.{grammar_of}
-use Rattle.language.specs.Book.{symbol}
 use Rattle.chart.proofs.presses.Press.begin_all.Goals as goal
 
 pub last-rule-requires : goal.last-rule-requires
