@@ -1,9 +1,9 @@
 -- What the calls of a draft answer, and what they leave.
-use Rattle.std.specs.Prelude.{◌≡◌, ℕ, ◌≤◌, [], ◌∷◌, ◌++◌, IsTrue, ◌↔◌, count_ones}
+use Rattle.std.specs.Prelude.{◌≡◌, ℕ, ◌≤◌, [], ◌∷◌, ◌++◌, IsTrue, ◌↔◌}
 use Rattle.language.specs.Words.{Word}
 use Rattle.language.specs.Drafts.{Lit}
 use Rattle.rulebook.specs.Presses.{PressRefused, PressTaken}
-use Rattle.rulebook.specs.Sets.{has}
+use Rattle.rulebook.specs.Sets.{has, many}
 use Rattle.rulebook.specs.declared.faults.Fault.{Fault}
 use Rattle.rulebook.specs.declared.faults.Fault.TheVariants.{NothingHeld}
 use Rattle.chart.specs.States.{State, words, before}
@@ -37,4 +37,4 @@ pub record NotRubbedOut (old new : State) (f : Fault) : Type 0 where
 -- the lit keys, and how many they are
 pub record LitIs (d : State) (l : LitSet) : Type 0 where
   pub keys : (c : ℕ) → IsTrue (has l.keys c) ↔ Lit d.grammar (words d) c
-  pub count : l.count ≡ count_ones l.keys.mask
+  pub count : l.count ≡ many l.keys

@@ -1,5 +1,6 @@
 -- Which symbols a mask holds.
-use Rattle.std.specs.Prelude.{ℕ, ◌-◌, Bool, ◌&&◌, ◌==◌, nat_le}
+use Rattle.std.specs.Prelude.{ℕ, ◌-◌, Bool, ◌&&◌, ◌==◌, nat_le, count_by}
+use Rattle.std.specs.List.{range_with_len}
 use Rattle.language.specs.Masks.{bit}
 use Rattle.rulebook.specs.declared.sets.SymbolSet.{SymbolSet}
 
@@ -22,3 +23,7 @@ is_symbol x c = symbolic c && x == c
 -- c is a number that a key can have, 33 to 64
 abbrev pub key_number : ℕ → Bool
 key_number c = nat_le 33 c && nat_le c 64
+
+-- how many of the symbols 1 to 64 a set holds
+abbrev pub many : SymbolSet → ℕ
+many s = count_by (has s) (range_with_len 1 64)

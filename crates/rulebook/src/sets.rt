@@ -1,6 +1,6 @@
 // Sets of symbols.
-ghost use Rattle.std.specs.Prelude.{◌≡◌, ℕ, ◌≤◌, false, ◌||◌, ◌&&◌, ◌==◌, IsTrue, ◌↔◌, count_ones};
-ghost use Rattle.rulebook.specs.Sets.{holds, has, is_symbol, key_number};
+ghost use Rattle.std.specs.Prelude.{◌≡◌, ℕ, ◌≤◌, false, ◌||◌, ◌&&◌, ◌==◌, IsTrue, ◌↔◌};
+ghost use Rattle.rulebook.specs.Sets.{holds, has, is_symbol, key_number, many};
 
 use super::books::place_of;
 
@@ -60,7 +60,7 @@ impl SymbolSet {
 
     // How many symbols the set holds.
     pub fn count(&self) -> u32
-        ensures { result ≡ count_ones self.now.mask }
+        ensures { result ≡ many self.now }
     {
         self.mask.count_ones()
     }

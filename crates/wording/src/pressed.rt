@@ -37,7 +37,8 @@ impl Matched {
     pub fn keys(&self) -> SymbolSet
         ensures { result ≡ self.now.keys }
     {
-        self.keys
+        let Matched { keys } = self;
+        *keys
     }
 
     // The set of keys that a word matches.
