@@ -3,8 +3,10 @@
 
 mod examination;
 mod reports;
+mod sources;
 #[cfg(test)]
 mod tests;
 
 pub use examination::{Findings, examine, sound_book};
 pub use reports::report_of;
+pub use sources::read_book;

@@ -10,3 +10,7 @@ right_in width number = replicate (width - length (decimal number)) 32 ++ decima
 -- the line by which a refusal is told: its four numbers in widths 4, 4, 6 and 6
 abbrev pub told_fault : Fault → List ℕ
 told_fault f = codes "fault" ++ (right_in 4 (number_of f) ++ (right_in 4 (layer_of f) ++ (right_in 6 (first_of f) ++ (right_in 6 (second_of f) ++ codes "\n"))))
+
+-- the line by which an accepted word is told: its number, the items and the lit keys in widths 4, 6 and 4
+abbrev pub told_word : ℕ → ℕ → ℕ → List ℕ
+told_word number items lit = right_in 4 number ++ (right_in 6 items ++ (right_in 4 lit ++ codes "\n"))

@@ -2,7 +2,7 @@
 #![tactic(auto, using(crate::proofs::Padding::padded_right))]
 
 ghost use Rattle.std.specs.Prelude.{◌≡◌, IfOk, string_bytes};
-ghost use Rattle.lines.specs.Columns.{right_in, told_fault};
+ghost use Rattle.lines.specs.Columns.{right_in, told_fault, told_word};
 
 use rulebook::Fault;
 use std::alloc::{AllocError, Global};
@@ -24,4 +24,12 @@ pub fn fault_line(heap: Global, fault: &Fault) -> Result<String, AllocError>
     let first = fault.first();
     let second = fault.second();
     format!(in heap; "fault{number:4}{layer:4}{first:6}{second:6}\n")
+}
+
+// The line by which an accepted word is told: its number, how many items there are then, and how many keys are lit, in
+// widths 4, 6 and 4.
+pub fn word_line(heap: Global, number: usize, items: usize, lit: u32) -> Result<String, AllocError>
+    ensures { IfOk result (λ s. string_bytes s ≡ told_word number items lit) }
+{
+    format!(in heap; "{number:4}{items:6}{lit:4}\n")
 }

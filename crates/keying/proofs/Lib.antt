@@ -1,0 +1,2 @@
+pub mod Going
+pub mod Listed
