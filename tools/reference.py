@@ -1,0 +1,246 @@
+#!/usr/bin/env python3
+"""An outside reference for keyin and the draft: it shares no code with the product, and says what they must print.
+
+    reference.py keys DIR     what crates/keysamples must print of the samples in DIR
+    reference.py drafts DIR   what crates/draftsamples must print of the runs in DIR
+"""
+import os
+import re
+import sys
+
+
+class Fault(Exception):
+    def line(self):
+        return "fault%4d%4d%6d%6d\n" % self.args
+
+
+def number(field):
+    shown = field.decode("latin-1")
+    if not re.fullmatch(r" *(0|[1-9][0-9]*)", shown) or len(shown) != 4:
+        return None
+    return int(shown)
+
+
+def field(line, row, column):
+    found = number(line[column - 1:column + 3])
+    if found is None:
+        raise Fault(3, 1, row, column)
+    return found
+
+
+def blank(line, row, column):
+    if line[column - 1:column + 3] != b"    ":
+        raise Fault(3, 1, row, column)
+
+
+class Book:
+    """A book's text, read and checked."""
+
+    def __init__(self, text):
+        if len(text) % 34 or not 34 <= len(text) <= 5474:
+            raise Fault(1, 1, 0, 0)
+        lines = [text[i:i + 34] for i in range(0, len(text), 34)]
+        self.rules, self.keys = [], []
+        for row, line in enumerate(lines, 1):
+            letter = b"H" if row == 1 else b"R" if row <= 1 + self.many else b"K"
+            if line[:1] != letter:
+                raise Fault(2, 1, row, 1)
+            if line[33:] != b"\n":
+                raise Fault(2, 1, row, 34)
+            getattr(self, "read_" + letter.decode())(line, row)
+            if row == 1 and len(lines) != 1 + self.many + self.key_count:
+                raise Fault(5, 1, 1, 0)
+        self.check()
+
+    def read_H(self, line, row):
+        self.parts, self.key_count, self.start, self.many = [field(line, row, c) for c in (2, 6, 10, 14)]
+        for column in (18, 22, 26, 30):
+            blank(line, row, column)
+
+    def read_R(self, line, row):
+        left, length = field(line, row, 2), field(line, row, 6)
+        symbols = []
+        for place in range(6):
+            if place < length:
+                symbols.append(field(line, row, 10 + 4 * place))
+            else:
+                blank(line, row, 10 + 4 * place)
+        self.rules.append((left, length, symbols))
+
+    def read_K(self, line, row):
+        key, kind = field(line, row, 2), field(line, row, 6)
+        spelling = line[9:33].rstrip(b" ")
+        if b" " in spelling or b"\n" in spelling:
+            raise Fault(3, 1, row, 10)
+        if key != 32 + row - 1 - self.many:
+            raise Fault(4, 1, row, 2)
+        self.keys.append((kind, spelling))
+
+    def is_part(self, symbol):
+        return 1 <= symbol <= self.parts
+
+    def is_key(self, symbol):
+        return 33 <= symbol <= 32 + self.key_count
+
+    def check(self):
+        within = 1 <= self.parts <= 32 and 1 <= self.key_count <= 32
+        if not (within and self.is_part(self.start) and 1 <= self.many <= 128):
+            raise Fault(11, 2, 0, 0)
+        for rule, (left, length, symbols) in enumerate(self.rules, 1):
+            if not self.is_part(left):
+                raise Fault(12, 2, rule, 0)
+            if length == 0:
+                raise Fault(13, 2, rule, 0)
+            if length > 6:
+                raise Fault(14, 2, rule, 0)
+            for place, symbol in enumerate(symbols, 1):
+                if not (self.is_part(symbol) or self.is_key(symbol)):
+                    raise Fault(15, 2, rule, place)
+        for key, (kind, spelling) in enumerate(self.keys, 33):
+            least = {0: 1, 1: 0, 2: 3}.get(kind, 99)
+            most = {0: 24, 1: 0, 2: 24}.get(kind, 0)
+            if not (least <= len(spelling) <= most and re.fullmatch(rb"[a-z-]*", spelling)):
+                raise Fault(16, 2, key, 0)
+        turned = set()
+        for _ in range(self.parts + 1):
+            turned |= {l for l, _, b in self.rules if all(self.is_key(s) or s in turned for s in b)}
+        for part in range(1, self.parts + 1):
+            if part not in turned:
+                raise Fault(17, 2, part, 0)
+        for part in range(1, self.parts + 1):
+            reached = {b[0] for l, _, b in self.rules if l == part and len(b) == 1}
+            for _ in range(self.parts + 1):
+                reached |= {b[0] for l, _, b in self.rules if l in reached and len(b) == 1}
+            if part in reached:
+                raise Fault(18, 2, part, 0)
+
+    def corners(self, symbol):
+        found = {symbol}
+        for _ in range(self.parts + 1):
+            found |= {b[0] for l, _, b in self.rules if l in found}
+        return found
+
+
+class Draft:
+    """The words held and, column by column, the items over them."""
+
+    def __init__(self, book, places):
+        self.book, self.places = book, min(places, 60000)
+        self.words, self.columns, self.wanted = [], [set()], [book.corners(book.start)]
+
+    def items(self):
+        return sum(map(len, self.columns))
+
+    def lit(self):
+        return {s for s in self.wanted[-1] if s >= 33}
+
+    def whole(self):
+        book, n = self.book, len(self.words)
+        return any(i == 0 and book.rules[r - 1][0] == book.start and d == len(book.rules[r - 1][2])
+                   for r, d, i in self.columns[n])
+
+    def column(self, word):
+        book, k = self.book, len(self.words) + 1
+        new, spans = set(), [(c, k - 1) for c in word if book.is_key(c)]
+        while spans:
+            symbol, j = spans.pop()
+            found = {(r, 1, j) for r, (left, _, body) in enumerate(book.rules, 1)
+                     if body[0] == symbol and left in self.wanted[j]}
+            found |= {(r, d + 1, i) for r, d, i in self.columns[j]
+                      if d < len(book.rules[r - 1][2]) and book.rules[r - 1][2][d] == symbol}
+            for r, d, i in found - new:
+                if d == len(book.rules[r - 1][2]):
+                    spans.append((book.rules[r - 1][0], i))
+            new |= found
+        return new
+
+    def press(self, word):
+        held = len(self.words)
+        if held >= 100:
+            raise Fault(21, 3, held, 0)
+        if not self.lit() & word:
+            raise Fault(22, 3, held, 0)
+        new = self.column(word)
+        if self.items() + len(new) > self.places:
+            raise Fault(23, 3, held, 0)
+        self.words.append(word)
+        self.columns.append(new)
+        bodies = [(self.book.rules[r - 1][2], d) for r, d, _ in new]
+        self.wanted.append(set().union(*[self.book.corners(b[d]) for b, d in bodies if d < len(b)]))
+        return self.items()
+
+    def rub_out(self):
+        if not self.words:
+            raise Fault(24, 3, 0, 0)
+        for stack in (self.words, self.columns, self.wanted):
+            stack.pop()
+        return self.items()
+
+
+def word_of(book, place, run):
+    """The keys that a run of bytes matches."""
+    name = re.match(rb"[a-z-]", run)
+    for at, byte in enumerate(run):
+        if not re.match(rb"[a-z-]" if name else rb"[0-9]", bytes([byte])):
+            raise Fault(42, 1, place + at + 1, 0)
+    if len(run) > (24 if name else 4):
+        raise Fault(43, 1, place + 1, 0)
+    keys = set()
+    for key, (kind, spelling) in enumerate(book.keys, 33):
+        if not name:
+            fits = kind == 1
+        else:
+            fits = (kind == 0 and spelling == run) or (kind == 2 and len(run) >= 3 and spelling.startswith(run))
+        keys |= {key} if fits else set()
+    return keys
+
+
+def keyed(book_text, text):
+    said = ""
+    try:
+        book = Book(book_text)
+        if len(text) > 4096:
+            raise Fault(41, 1, 0, 0)
+        draft = Draft(book, 8000)
+        for count, run in enumerate(re.finditer(rb"[^ \n]+", text), 1):
+            items = draft.press(word_of(book, run.start(), run.group()))
+            said += "%4d%6d%4d\n" % (count, items, len(draft.lit()))
+    except Fault as fault:
+        return said + fault.line()
+    return said + ("whole\n" if draft.whole() else "short\n")
+
+
+def state(draft):
+    keys = sorted(draft.lit())
+    end = "whole" if draft.whole() else "short"
+    return "     %d lit:%s, %s\n" % (len(keys), "".join(" %d" % k for k in keys), end)
+
+
+def run(book_text, text):
+    words = text.split()
+    places = int(words[0]) * 100 + int(words[1])
+    draft = Draft(Book(book_text), places)
+    said = state(draft)
+    for word in words[2:]:
+        try:
+            said += "%d items\n" % (draft.press({int(word)}) if word.isdigit() else draft.rub_out())
+        except Fault as fault:
+            said += fault.line()
+        said += state(draft)
+    items = sorted((k, i, r, d) for k, column in enumerate(draft.columns) for r, d, i in column)
+    for k, i, r, d in items[:50]:
+        said += "     item %d %d %d %d\n" % (r, d, i, k)
+    return said + "     %d blank, %d as before\n" % (draft.places - len(items), places - draft.places)
+
+
+def main():
+    way, folder = sys.argv[1:]
+    end, tell = {"keys": (".text", keyed), "drafts": (".steps", run)}[way]
+    for name in sorted(n for n in os.listdir(folder) if n.endswith(end)):
+        text = open(os.path.join(folder, name), "rb").read()
+        book = open(os.path.join(folder, name.replace(end, ".book")), "rb").read()
+        sys.stdout.write(name + "\n" + tell(book, text))
+
+
+if __name__ == "__main__":
+    main()
