@@ -25,9 +25,7 @@ pub fn front_of<R: Read + Drop>(heap: Global, reader: R, most: usize) -> io::Res
     ensures bytes { IfSome (R.remaining reader) (λ xs. IfOk result (λ v. v.items ≡ take most xs)) }
 {
     let mut bytes = Vec::new(heap);
-    reader
-        .take(most as u64)
-        .read_to_end(&mut bytes)?;
+    reader.take(most as u64).read_to_end(&mut bytes)?;
     // A reader that says nothing of its bytes is not known to stop there.
     bytes.truncate(most);
     Ok(bytes)
