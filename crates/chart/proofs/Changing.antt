@@ -1,9 +1,9 @@
 -- How the calls of a draft change what is seen of it.
-use Rattle.std.proofs.Common.{◌≡◌, ℕ, suc, ◌-◌, ◌<◌, ◌≤◌, min, List, [], ◌∷◌, ◌++◌, map, length, get_or, set, replicate, sym, refl, ap, ◌∙◌, subst, ⊎_elim, le_refl, Bor, arith}
+use Rattle.std.proofs.Common.{◌≡◌, ℕ, suc, ◌-◌, ◌≤◌, min, List, [], ◌∷◌, ◌++◌, map, length, get_or, set, replicate, sym, refl, ap, ◌∙◌, subst, ⊎_elim, le_refl, Bor, arith}
 use Rattle.std.proofs.lemmas.List.{length-map, ext_get_or, map-set, set-set, set-get_or}
 use Rattle.std.proofs.Math.ListN.{get_or-map}
 use Rattle.std.proofs.lemmas.Bool.{cases_lt}
-use Rattle.language.specs.Book.{Grammar, size}
+use Rattle.language.specs.Book.{Grammar}
 use Rattle.language.specs.Readings.{Item as Told}
 use Rattle.language.specs.Chart.{Held}
 use Rattle.soundbook.specs.declared.sounds.SoundBook.{SoundBook}
@@ -14,7 +14,7 @@ use Rattle.chart.specs.Boards.{Cut, Fresh, at_place}
 use Rattle.chart.specs.Calls.{RubbedOut}
 use Rattle.chart.specs.Filling.{Standing}
 use Rattle.chart.specs.Items.{entry, blank_item, told, blank_told}
-use Rattle.chart.specs.Kept.{Column, Kept, Recorded, Crowded}
+use Rattle.chart.specs.Kept.{Kept, Recorded, Crowded}
 use Rattle.chart.specs.Records.{grammar_of, words_of, words_with, record_of, blank_record, matching, past_of}
 use Rattle.chart.specs.States.{WordRecord, State, no_word, record_at, words, blanked, opened, before, Stands}
 use Rattle.chart.specs.Takings.{Taken, NotTaken}
@@ -24,7 +24,7 @@ use Rattle.chart.specs.declared.indexes.Index.{Index}
 use Rattle.chart.specs.declared.items.Item.{Item}
 use Rattle.chart.specs.declared.records.Record.{Record}
 use Rattle.chart.specs.declared.records.Settled.{Settled}
-use Rattle.chart.proofs.Keeping.{OneMore, more_of, less_of, words_more, one_written, one_blanked, kept_more, kept_less}
+use Rattle.chart.proofs.Keeping.{same_column, OneMore, more_of, less_of, words_more, one_written, one_blanked, kept_more, kept_less}
 use Rattle.chart.proofs.Seen.{blanked_is, words_seen, record_seen, stands}
 
 -- states of the same numbers and lists are one
@@ -112,19 +112,6 @@ module _ (s : Settled) (w : Matched) (old mid new : Board) (kept : Kept s old) (
   same_standing : (from past : ℕ) (t : Item) → Standing old from past t → Standing new from past t
   same_standing from past t x = record { place = x.place; low = x.low; high = x.high; is = same_place x.place ∙ x.is }
 
-  same_column : (k start : ℕ) (r : Record) → Column (grammar_of s) old k start r → Column (grammar_of s) new k start r
-  same_column k start r c = record {
-    begins = c.begins;
-    split = record {
-      low = c.split.low;
-      high = c.split.high;
-      unfinished = λ q low high. subst (λ (t : Item). t.done < size (grammar_of s) t.rule) (sym (same_place q)) (c.split.unfinished q low high);
-      finished = λ q low high. subst (λ (t : Item). t.done ≡ size (grammar_of s) t.rule) (sym (same_place q)) (c.split.finished q low high);
-    };
-    within = omega (arith, c.within, cut.top);
-    ends = λ q low high. ap (λ (t : Item). t.end) (same_place q) ∙ c.ends q low high;
-  }
-
   pub refused_kept : Kept s new
   refused_kept = record {
     index = kept.index;
@@ -135,7 +122,7 @@ module _ (s : Settled) (w : Matched) (old mid new : Board) (kept : Kept s old) (
     apart = λ p q l h e. kept.apart p q l (omega (arith, cut.top)) (sym (same_place p) ∙ (e ∙ same_place q));
     all = λ r d i k h. same_standing (record_of s k).from (record_of s k).past (entry r d i k) (kept.all r d i k h);
     wanted = kept.wanted;
-    columns = λ k some l. same_column k (past_of s (k - 1)) (record_of s k) (kept.columns k some l);
+    columns = λ k some l. let c = kept.columns k some l in same_column (grammar_of s) old new k (past_of s (k - 1)) (record_of s k) (λ q high. same_place q) (omega (arith, c.within, cut.top)) c;
     cleared = kept.cleared;
     blank = λ q l h. same_place q ∙ kept.blank q (omega (arith, cut.top)) (omega (arith, cut.limit, full.limit));
   }

@@ -2,7 +2,7 @@
 use Rattle.std.proofs.Common.{◌≡◌, ℕ, zero, suc, ◌-◌, ◌<◌, ◌≤◌, IsTrue, ◌↔◌, eqb, min, List, [], ◌∷◌, ◌++◌, map, length, get_or, set, take, replicate, sym, refl, ap, ◌∙◌, subst, ⊎_elim, le_refl, Bor, arith}
 use Rattle.std.proofs.lemmas.List.{length-take-le, take_more, get_or-take, get_or-replicate, length-replicate, length-set, get_or-set_same, get_or-set_other, ext_get_or, map-append}
 use Rattle.std.proofs.lemmas.Bool.{cases_eq, cases_lt, ne_eqb, cond-false}
-use Rattle.language.specs.Book.{size}
+use Rattle.language.specs.Book.{Grammar, size}
 use Rattle.language.specs.Chart.{Held, Wanted, first, next}
 use Rattle.rulebook.specs.Sets.{has}
 use Rattle.soundbook.specs.Corners.{CornersOf}
@@ -33,6 +33,20 @@ past_after s k some = cond-false (eqb k 0) 0 (record_of s k).past (ne_eqb k 0 (�
 
 pub wanted_after : (s : Settled) (k : ℕ) → 1 ≤ k → wanted_in s k ≡ (record_of s k).wanted
 wanted_after s k some = cond-false (eqb k 0) (corners_at s.index (grammar_of s).start) (record_of s k).wanted (ne_eqb k 0 (λ e. omega arith))
+
+-- a column is what it was where its places are
+pub same_column : (g : Grammar) (a b : Board) (k start : ℕ) (r : Record) → ((q : ℕ) → q < r.past → at_place b q ≡ at_place a q) → r.past ≤ b.top → Column g a k start r → Column g b k start r
+same_column g a b k start r places inside c = record {
+  begins = c.begins;
+  split = record {
+    low = c.split.low;
+    high = c.split.high;
+    unfinished = λ q low high. subst (λ (t : Item). t.done < size g t.rule) (sym (places q (omega (arith, c.split.high)))) (c.split.unfinished q low high);
+    finished = λ q low high. subst (λ (t : Item). t.done ≡ size g t.rule) (sym (places q high)) (c.split.finished q low high);
+  };
+  within = inside;
+  ends = λ q low high. ap (λ (t : Item). t.end) (places q high) ∙ c.ends q low high;
+}
 
 -- what a draft keeps of the places of its items
 module _ (s : Settled) (b : Board) (kept : Kept s b) where
@@ -145,20 +159,6 @@ module _ (book : Bor SoundBook) (index : Index) (less more : List Record) (n m :
     wanted_less : (k Y : ℕ) → k ≤ n → Wanted (grammar_of less_of) (words_of more_of) k Y → Wanted (grammar_of less_of) (words_of less_of) k Y
     wanted_less k Y l h = wanted_without less_of last.word one.less_long k Y l (subst (λ ws. Wanted (grammar_of less_of) ws k Y) words_more h)
 
-    -- a column of an earlier word, where its places are the same
-    same_column : (a b : Board) (k start : ℕ) (r : Record) → ((q : ℕ) → q < r.past → at_place b q ≡ at_place a q) → r.past ≤ b.top → Column (grammar_of less_of) a k start r → Column (grammar_of less_of) b k start r
-    same_column a b k start r places inside c = record {
-      begins = c.begins;
-      split = record {
-        low = c.split.low;
-        high = c.split.high;
-        unfinished = λ q low high. subst (λ (t : Item). t.done < size (grammar_of less_of) t.rule) (sym (places q (omega (arith, c.split.high)))) (c.split.unfinished q low high);
-        finished = λ q low high. subst (λ (t : Item). t.done ≡ size (grammar_of less_of) t.rule) (sym (places q high)) (c.split.finished q low high);
-      };
-      within = inside;
-      ends = λ q low high. ap (λ (t : Item). t.end) (places q high) ∙ c.ends q low high;
-    }
-
     -- from what was kept and the filled column of the last word
     module _ (old new : Board) (w : Matched) (kept : Kept less_of old) (done : Recorded less_of w old new last) where
       same_word : words_with less_of w ≡ words_of more_of
@@ -218,7 +218,7 @@ module _ (book : Bor SoundBook) (index : Index) (less more : List Record) (n m :
           let c = kept.columns k some early in
           subst (Column (grammar_of less_of) new k (past_of more_of (k - 1))) (sym (same_records k some early))
           (subst (λ x. Column (grammar_of less_of) new k x (record_of less_of k)) (sym (same_past (k - 1) (omega arith)))
-          (same_column old new k (past_of less_of (k - 1)) (record_of less_of k) (λ q high. same_place q (omega (arith, c.within))) (omega (arith, c.within, done.top)) c)))
+          (same_column (grammar_of less_of) old new k (past_of less_of (k - 1)) (record_of less_of k) (λ q high. same_place q (omega (arith, c.within))) (omega (arith, c.within, done.top)) c)))
           (cases_eq k m)
 
       pub kept_more : Kept more_of new
@@ -289,7 +289,7 @@ module _ (book : Bor SoundBook) (index : Index) (less more : List Record) (n m :
       less_column : (k : ℕ) → 1 ≤ k → k ≤ n → Column (grammar_of less_of) new k (past_of less_of (k - 1)) (record_of less_of k)
       less_column k some l =
           let c = kept.columns k some (omega (arith, one.next)) in
-          same_column old new k (past_of less_of (k - 1)) (record_of less_of k) (λ q high. cut.before q (omega (arith, column_before k some l))) (omega (arith, column_before k some l, cut.top))
+          same_column (grammar_of less_of) old new k (past_of less_of (k - 1)) (record_of less_of k) (λ q high. cut.before q (omega (arith, column_before k some l))) (omega (arith, column_before k some l, cut.top))
           (subst (λ x. Column (grammar_of less_of) old k x (record_of less_of k)) (same_past (k - 1) (omega arith)) (subst (Column (grammar_of less_of) old k (past_of more_of (k - 1))) (same_records k some l) c))
 
       pub kept_less : Kept less_of new

@@ -85,8 +85,8 @@ some_held t some = ⊎_elim (λ h. h)
     (λ none. absurd (some (λ c. ⊎_elim (λ l. none c l) (λ l. sym (holds_outside t.mask c (inr (omega arith)))) (cases_lt c 65)))) (some_below t 65)
 
 -- two tests that agree are one word
-pub same_word : (w : Matched) (v : Word) → ((c : ℕ) → has w.keys c ≡ v c) → matching w ≡ v
-same_word w v h = fun_ext h
+pub same_matches : (w : Matched) (v : Word) → ((c : ℕ) → has w.keys c ≡ v c) → matching w ≡ v
+same_matches w v h = fun_ext h
 
 -- whether a word matches a lit key, said of the state that is seen
 module _ (s : Settled) (b : Board) (kept : Kept s b) (keys : SymbolSet) (is : (c : ℕ) → has keys c ≡ (has (wanted_in s s.held) c && key_number c)) (m : Matched) (word : SymbolSet) (same : word ≡ m.keys)
@@ -97,12 +97,12 @@ module _ (s : Settled) (b : Board) (kept : Kept s b) (keys : SymbolSet) (is : (c
   pub is_dark : ((c : ℕ) → has both c ≡ false) → MatchesLit v.grammar (words v) w → ⊥
   is_dark none h =
       none_matches s b kept keys is m both common_is none
-      (subst (λ (d : State). MatchesLit d.grammar (words d) (matching m)) (sym seen) (subst (λ x. MatchesLit v.grammar (words v) x) (sym (same_word m w tells)) h))
+      (subst (λ (d : State). MatchesLit d.grammar (words d) (matching m)) (sym seen) (subst (λ x. MatchesLit v.grammar (words v) x) (sym (same_matches m w tells)) h))
 
   pub is_lit : (((c : ℕ) → has both c ≡ false) → ⊥) → MatchesLit v.grammar (words v) w
   is_lit some =
       let x = some_held both some in
-      subst (λ y. MatchesLit v.grammar (words v) y) (same_word m w tells)
+      subst (λ y. MatchesLit v.grammar (words v) y) (same_matches m w tells)
       (subst (λ (d : State). MatchesLit d.grammar (words d) (matching m)) seen (some_matches s b kept keys is m both common_is x.0 x.1))
 
 module _ (v : State) (seen : Stands v) where

@@ -3,7 +3,7 @@ use Rattle.std.specs.Prelude.{MatchResult}
 use Rattle.std.proofs.lemmas.Bool.{both_ways}
 use Rattle.chart.specs.States.{State, Stands}
 use Rattle.chart.specs.Takings.{Taken, NotTaken}
-use Rattle.chart.proofs.Pressing.{is_dark, is_lit, same_word, full_refused, dark_refused, press_cases}
+use Rattle.chart.proofs.Pressing.{is_dark, is_lit, same_matches, full_refused, dark_refused, press_cases}
 use Rattle.chart.proofs.Seen.{stands}
 use Rattle.chart.proofs.drafts.Draft.press.Goals as goal
 
@@ -31,4 +31,4 @@ returns-clause-cases g c =
     is_lit c.self.inside.settled c.self.inside.board c.self.invariant c.lit.result c.lit.ensures c.of-matched.result c.keys.result c.keys.ensures c.common.result c.common.ensures c.args.self.now c.self.view_is _ c.of-matched.ensures
     (λ none. both_ways false refl (c.if-is_empty.ensures.1 none)) in
     press_cases c.args.self.now seen c.take.new.self _ (omega (arith, ap (λ (d : State). d.held) c.self.view_is)) lit c.take.result
-    (subst (λ w. MatchResult c.take.result (Taken c.args.self.now c.take.new.self w) (NotTaken c.args.self.now c.take.new.self w)) (same_word c.of-matched.result _ c.of-matched.ensures) c.take.ensures)
+    (subst (λ w. MatchResult c.take.result (Taken c.args.self.now c.take.new.self w) (NotTaken c.args.self.now c.take.new.self w)) (same_matches c.of-matched.result _ c.of-matched.ensures) c.take.ensures)
