@@ -1,5 +1,5 @@
 -- A programme is keyed in: what holds after some of its words, and what a further word adds.
-use Rattle.std.proofs.Common.{◌≡◌, ℕ, ◌+◌, ◌<◌, min, List, [], ◌∷◌, ◌++◌, map, length, get_or, take, drop, Some, None, Option, Ok, String, string_bytes, refl, sym, ap, ◌∙◌, subst, inl, inr, arith, length-append, length-take, ◌↔◌}
+use Rattle.std.proofs.Common.{◌≡◌, ℕ, ◌+◌, ◌<◌, min, List, [], ◌∷◌, ◌++◌, map, length, get_or, take, drop, Some, None, Option, Result, Ok, Err, String, string_bytes, refl, sym, ap, ◌∙◌, subst, inl, inr, arith, length-append, length-take, ◌↔◌}
 use Rattle.std.proofs.Math.ListN.{drop_of_length-le}
 use Rattle.std.proofs.lemmas.List.{drop_more, length-map, length-take-le, map_more}
 use Rattle.language.specs.Book.{Grammar, Meaning}
@@ -45,15 +45,15 @@ going_first m pieces d ts is many s none =
     record { grammar = refl; budget = ap (min 60000) many; words = refl; lines = Lines.none })
 
 -- all words that could be cut are held
-pub going_last : (m : Meaning) (pieces : List Placed) (stop : Option Fault) (d : State) (s end : List ℕ) (taken : ℕ) → Going m pieces taken d s → length pieces ≡ taken → LastSaid d stop end → AllKeyed m pieces stop (s ++ end)
-going_last m pieces stop d s end taken so_far all said = record {
+pub going_last : (m : Meaning) (pieces : List Placed) (stop : Option Fault) (d : State) (s end : List ℕ) (taken : ℕ) → Going m pieces taken d s → length pieces ≡ taken → LastSaid d stop end → (t : List ℕ) → s ++ end ≡ t → AllKeyed m pieces stop t
+going_last m pieces stop d s end taken so_far all tells t said = record {
   taken = taken;
   few = omega (arith, all);
   shown = s;
   lines = so_far.lines;
   end = end;
-  last = subst (λ ps. LastLine m 8000 held ps stop end) (sym (drop_of_length-le pieces (omega (arith, all)))) (last stop said);
-  said = refl;
+  last = subst (λ ps. LastLine m 8000 held ps stop end) (sym (drop_of_length-le pieces (omega (arith, all)))) (last stop tells);
+  said = sym said;
 }
   where
     held : List Word
@@ -67,58 +67,76 @@ going_last m pieces stop d s end taken so_far all said = record {
     last None (inl (w, is)) = subst (LastLine m 8000 held [] None) (sym is) (LastLine.whole (whole_as.0 w))
     last None (inr (w, is)) = subst (LastLine m 8000 held [] None) (sym is) (LastLine.short (λ h. w (whole_as.1 h)))
 
--- a further piece; what is read past the end does not matter
-module _ (m : Meaning) (pieces : List Placed) (taken : ℕ) (default : Placed) (inside : taken < length pieces) where
-  abbrev next_word : Word
-  next_word = piece_word m (get_or pieces taken default)
+-- a further piece, as a loop reads it: of a list that is the pieces, with something past its end that does not matter
+module _ (m : Meaning) (pieces read : List Placed) (same : read ≡ pieces) (taken : ℕ) (default : Placed) (inside : taken < length read) where
+  abbrev next_piece : Placed
+  next_piece = get_or read taken default
 
   abbrev words_to : ℕ → List Word
   words_to n = map (piece_word m) (take n pieces)
 
-  further : words_to (taken + 1) ≡ words_to taken ++ (next_word ∷ [])
-  further = map_more (piece_word m) pieces taken default inside
+  within : taken < length pieces
+  within = subst (λ ps. taken < length ps) same inside
+
+  is_next : get_or pieces taken default ≡ next_piece
+  is_next = ap (λ ps. get_or ps taken default) (sym same)
+
+  further : words_to (taken + 1) ≡ words_to taken ++ (piece_word m next_piece ∷ [])
+  further = map_more (piece_word m) pieces taken default within ∙ ap (λ p. words_to taken ++ (piece_word m p ∷ [])) is_next
+
+  behind : drop taken pieces ≡ next_piece ∷ drop (taken + 1) pieces
+  behind = drop_more pieces taken default within ∙ ap (λ p. p ∷ drop (taken + 1) pieces) is_next
 
   long : length (words_to taken) ≡ taken
-  long = length-map (take taken pieces) (piece_word m) ∙ length-take-le taken pieces (omega (arith, inside))
+  long = length-map (take taken pieces) (piece_word m) ∙ length-take-le taken pieces (omega (arith, within))
 
-  module _ (old new : State) (s : List ℕ) (so_far : Going m pieces taken old s) where
+  -- what becomes of its word
+  module _ {A : Type 0} (old new : State) (s t : List ℕ) (so_far : Going m pieces taken old s) (answer : Result (String A) Fault)
+      (pressed : PressedLine old new (piece_word m next_piece) (taken + 1) answer) where
     held_as : (P : Grammar → ℕ → List Word → Type 0) → P old.grammar old.budget (words old) → P m.grammar 8000 (words_to taken)
     held_as P p = subst (λ g. P g 8000 (words_to taken)) so_far.grammar (subst (λ n. P old.grammar n (words_to taken)) so_far.budget (subst (P old.grammar old.budget) so_far.words p))
 
-    -- its word is taken and its line said
-    pub going_on : {A : Type 0} (l : String A) → PressedLine old new next_word (taken + 1) (Ok l) → Going m pieces (taken + 1) new (s ++ string_bytes l)
-    going_on l (stands, (n, pressed), (k, lit, told)) = record {
-      grammar = same;
-      budget = ap (λ (d : State). d.budget) pressed.before ∙ so_far.budget;
-      words = now ∙ sym further;
-      lines =
-          subst (λ ws. Lines m.grammar 8000 ws (s ++ string_bytes l)) (sym further)
-          (Lines.more (words_to taken) next_word s (string_bytes l) so_far.lines
-          (held_as (λ g n ws. PressTaken g n ws next_word) pressed.taken)
-          (subst (λ g. WordLine g (words_to taken ++ (next_word ∷ [])) (string_bytes l)) same
-          (subst (λ ws. WordLine new.grammar ws (string_bytes l)) now
-          (subst (WordLine new.grammar (words new)) (sym told) (line_of new k (taken + 1) stands lit many)))));
-    }
+    -- it is taken and its line said
+    pub going_on : (l : String A) → answer ≡ Ok l → s ++ string_bytes l ≡ t → Going m pieces (taken + 1) new t
+    going_on l is said = on (subst (PressedLine old new (piece_word m next_piece) (taken + 1)) is pressed)
       where
-        now : words new ≡ words_to taken ++ (next_word ∷ [])
-        now = pressed.words ∙ ap (λ ws. ws ++ (next_word ∷ [])) so_far.words
+        on : PressedLine old new (piece_word m next_piece) (taken + 1) (Ok l) → Going m pieces (taken + 1) new t
+        on (stands, (n, kept), (k, lit, told)) = record {
+          grammar = grammar;
+          budget = ap (λ (d : State). d.budget) kept.before ∙ so_far.budget;
+          words = now ∙ sym further;
+          lines =
+              subst (Lines m.grammar 8000 (words_to (taken + 1))) said
+              (subst (λ ws. Lines m.grammar 8000 ws (s ++ string_bytes l)) (sym further)
+              (Lines.more (words_to taken) (piece_word m next_piece) s (string_bytes l) so_far.lines
+              (held_as (λ g n ws. PressTaken g n ws (piece_word m next_piece)) kept.taken)
+              (subst (λ g. WordLine g (words_to taken ++ (piece_word m next_piece ∷ [])) (string_bytes l)) grammar
+              (subst (λ ws. WordLine new.grammar ws (string_bytes l)) now
+              (subst (WordLine new.grammar (words new)) (sym told) (line_of new k (taken + 1) stands lit many))))));
+        }
+          where
+            now : words new ≡ words_to taken ++ (piece_word m next_piece ∷ [])
+            now = kept.words ∙ ap (λ ws. ws ++ (piece_word m next_piece ∷ [])) so_far.words
 
-        same : new.grammar ≡ m.grammar
-        same = ap (λ (d : State). d.grammar) pressed.before ∙ so_far.grammar
+            grammar : new.grammar ≡ m.grammar
+            grammar = ap (λ (d : State). d.grammar) kept.before ∙ so_far.grammar
 
-        many : taken + 1 ≡ length (words new)
-        many = sym (ap length now ∙ (length-append (words_to taken) (next_word ∷ []) ∙ ap (λ n. n + 1) long))
+            many : taken + 1 ≡ length (words new)
+            many = sym (ap length now ∙ (length-append (words_to taken) (piece_word m next_piece ∷ []) ∙ ap (λ n. n + 1) long))
 
     -- or it is refused, and that is said
-    pub going_refused : (stop : Option Fault) (f : Fault) → NotPressed old new next_word f → AllKeyed m pieces stop (s ++ told_fault f)
-    going_refused stop f not_pressed = record {
+    pub going_refused : (stop : Option Fault) (f : Fault) → answer ≡ Err f → s ++ told_fault f ≡ t → AllKeyed m pieces stop t
+    going_refused stop f is said = record {
       taken = taken;
-      few = omega (arith, inside);
+      few = omega (arith, within);
       shown = s;
       lines = so_far.lines;
       end = told_fault f;
       last =
-          subst (λ ps. LastLine m 8000 (words_to taken) ps stop (told_fault f)) (sym (drop_more pieces taken default inside))
-          (LastLine.refused (get_or pieces taken default) (drop (taken + 1) pieces) stop f (held_as (λ g n ws. PressRefused g n ws next_word f) not_pressed.refused));
-      said = refl;
+          subst (λ ps. LastLine m 8000 (words_to taken) ps stop (told_fault f)) (sym behind)
+          (LastLine.refused next_piece (drop (taken + 1) pieces) stop f (held_as (λ g n ws. PressRefused g n ws (piece_word m next_piece) f) refused.refused));
+      said = sym said;
     }
+      where
+        refused : NotPressed old new (piece_word m next_piece) f
+        refused = subst (PressedLine old new (piece_word m next_piece) (taken + 1)) is pressed
