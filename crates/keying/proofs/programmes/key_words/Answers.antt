@@ -1,6 +1,8 @@
-use Rattle.std.proofs.Common.{map, sym, ◌∙◌, rules}
+use Rattle.std.proofs.Common.{◌+◌, get_or, map, sym, ◌∙◌, rules}
 use Rattle.std.proofs.lemmas.List.{length-map}
+use Rattle.soundbook.specs.Sounds.{sound_meaning}
 use Rattle.chart.specs.Items.{told}
+use Rattle.keying.specs.Keyed.{piece_word, PressedLine}
 use Rattle.keying.proofs.Going.{going_first, going_on, going_refused, going_last}
 use Rattle.keying.proofs.programmes.key_words.Goals as goal
 
@@ -10,13 +12,17 @@ loop-place-init c =
 
 pub returns-in-Err : goal.returns-in-Err
 returns-in-Err c =
-    going_refused _ _ _ c.deref-word-items.ensures.value c.loop-place.place _ (search (rules, c.loop-place-test.true)) c.loop-place.draft c.press_line.new.draft _ _
-    c.loop-place.invariant _ c.in_ok-line.ensures c.args.programme.now.fault c.in-Err.fault c.in-Err.is (search rules)
+    let m = sound_meaning c.args.book.now in
+    let read = c.deref-word-items.result.now in
+    let pressed : PressedLine c.loop-place.draft c.press_line.new.draft (piece_word m (get_or read c.loop-place.place _)) (c.loop-place.place + 1) c.in_ok-line.field-0 = c.in_ok-line.ensures in
+    going_refused m _ read c.deref-word-items.ensures.value c.loop-place.place _ (search (rules, c.loop-place-test.true)) _ _ _ _ c.loop-place.invariant _ pressed c.args.programme.now.fault c.in-Err.fault c.in-Err.is (search rules)
 
 pub loop-place-preserved : goal.loop-place-preserved
 loop-place-preserved c =
-    going_on _ _ _ c.deref-word-items.ensures.value c.loop-place.place _ (search (rules, c.loop-place-test.true)) c.loop-place.draft c.press_line.new.draft _ _
-    c.loop-place.invariant _ c.in_ok-line.ensures c.in-Ok.line c.in-Ok.is (search rules)
+    let m = sound_meaning c.args.book.now in
+    let read = c.deref-word-items.result.now in
+    let pressed : PressedLine c.loop-place.draft c.press_line.new.draft (piece_word m (get_or read c.loop-place.place _)) (c.loop-place.place + 1) c.in_ok-line.field-0 = c.in_ok-line.ensures in
+    going_on m _ read c.deref-word-items.ensures.value c.loop-place.place _ (search (rules, c.loop-place-test.true)) _ _ _ _ c.loop-place.invariant _ pressed c.in-Ok.line c.in-Ok.is (search rules)
 
 pub returns : goal.returns
 returns c =
