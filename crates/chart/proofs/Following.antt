@@ -2,6 +2,7 @@
 use Rattle.std.proofs.Common.{◌≡◌, ℕ, suc, ◌<◌, ◌≤◌, Bool, true, false, T, ◌||◌, [], length, get_or, take, replicate, sym, refl, ap, ◌∙◌, subst, ⊎_elim, arith}
 use Rattle.std.proofs.lemmas.List.{length-map, length-take-le, get_or_at, get_or-replicate, get_or_past, length-replicate}
 use Rattle.std.proofs.lemmas.Bool.{cases_eq, cases_lt, or_left, or_right, or_cases, and_parts, and_from, eq-eqb, eqb-true}
+use Rattle.std.proofs.lemmas.Float.{T_from_true}
 use Rattle.language.specs.Book.{Key, left, size}
 use Rattle.language.specs.Words.{Word, blank}
 use Rattle.language.specs.Chart.{Held, word, finished}
@@ -25,10 +26,7 @@ use Rattle.chart.specs.declared.records.Settled.{Settled}
 use Rattle.chart.proofs.Entering.{plain_of, held_start}
 use Rattle.chart.proofs.Spanning.{rule_small, next_small, span_more}
 
--- a test that says yes, told in either way
-pub test_passes : (b : Bool) → b ≡ true → T b
-test_passes b e = subst T (sym e) tt
-
+-- a test that passes says yes
 pub passed_test : (b : Bool) → T b → b ≡ true
 passed_test true h = refl
 passed_test false h = absurd h
@@ -53,7 +51,7 @@ module _ (s : Settled) (w : Matched) (ready : Ready s w) where
 
   -- a key that the new word matches spans
   pub key_spans : (c : ℕ) → Key (grammar_of s) c → has w.keys c ≡ true → SpansHere s w c s.held
-  key_spans c k h = word c s.held k (test_passes _ (ap (λ (v : Word). v c) last_word ∙ h))
+  key_spans c k h = word c s.held k (T_from_true _ (ap (λ (v : Word). v c) last_word ∙ h))
 
   -- a key is done with, or those before it still are
   pub keys_next : {a b : Board} (n m : ℕ) → Extends a b → ((c : ℕ) → 33 ≤ c → c < n → KeyDone s w a c) → m ≡ suc n → KeyDone s w b n → (c : ℕ) → 33 ≤ c → c < m → KeyDone s w b c

@@ -4,6 +4,7 @@ use mathlib.Core.Path.{fun_ext}
 use Rattle.std.specs.Prelude.{Result, Ok, Err, MatchResult}
 use Rattle.std.proofs.lemmas.List.{length-map, length-take, length-take-le}
 use Rattle.std.proofs.lemmas.Bool.{cases_Bool, cases_eq, cases_lt, both_ways, and_from, and_parts, le-leb, leb-true}
+use Rattle.std.proofs.lemmas.Float.{T_from_true}
 use Rattle.language.specs.Book.{Grammar, Key}
 use Rattle.language.specs.Words.{Word}
 use Rattle.language.specs.Chart.{Corner, Wanted, self, down, first, next}
@@ -24,7 +25,7 @@ use Rattle.chart.specs.Views.{state_of}
 use Rattle.chart.specs.declared.boards.Board.{Board}
 use Rattle.chart.specs.declared.records.Settled.{Settled}
 use Rattle.chart.proofs.Entering.{plain_of}
-use Rattle.chart.proofs.Following.{test_passes, passed_test}
+use Rattle.chart.proofs.Following.{passed_test}
 use Rattle.chart.proofs.Plain.{Plain}
 use Rattle.chart.proofs.Seen.{words_seen}
 use Rattle.chart.proofs.Starting.{words_held, kept_bounds}
@@ -71,7 +72,7 @@ module _ (s : Settled) (b : Board) (kept : Kept s b) (keys : SymbolSet) (is : (c
     none_matches none m = both_ways _ (none m.key) (common m.key ∙ and_from _ _ ((lit_held m.key).1 m.lit) (passed_test _ m.matches))
 
     pub some_matches : (c : ℕ) → has both c ≡ true → MatchesLit (grammar_of s) (words (state_of s b)) (matching w)
-    some_matches c h = let parts = and_parts (has keys c) (has w.keys c) (sym (common c) ∙ h) in record { key = c; lit = (lit_held c).0 parts.0; matches = test_passes _ parts.1 }
+    some_matches c h = let parts = and_parts (has keys c) (has w.keys c) (sym (common c) ∙ h) in record { key = c; lit = (lit_held c).0 parts.0; matches = T_from_true _ parts.1 }
 
 -- a set that is not empty holds some symbol
 some_below : (t : SymbolSet) (n : ℕ) → ((c : ℕ) × (has t c ≡ true)) ⊎ ((c : ℕ) → c < n → has t c ≡ false)

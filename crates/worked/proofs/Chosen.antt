@@ -1,6 +1,7 @@
 -- Tests that compute whether a tree is a reading of the words, and whether it is chosen by the items over them.
 use Rattle.std.proofs.Common.{◌≡◌, ℕ, zero, suc, ◌+◌, ◌-◌, ◌<◌, Bool, true, false, not, ◌&&◌, eqb, ltb, List, [], ◌∷◌, length, refl, ⊎_elim, arith}
 use Rattle.std.proofs.lemmas.Bool.{and_parts, and_from, eqb-true, eq-eqb, ltb-true, cases_lt, not-true, both_ways}
+use Rattle.std.proofs.lemmas.Float.{T_from_true}
 use Rattle.language.specs.Book.{Grammar, Numbered, left, size, symbol}
 use Rattle.language.specs.Words.{Word, Begins}
 use Rattle.language.specs.Readings.{Children, none, key, part, yield, count, Fits, Item, item, Reads}
@@ -10,7 +11,7 @@ use Rattle.language.specs.Columns.{InBounds, Among}
 use Rattle.language.specs.Choice.{LowestHeld, EarliestHeld, ChosenHeld}
 use Rattle.worked.proofs.Check.{any, member_any}
 use Rattle.language.proofs.Tests.{key_test, rule_test}
-use Rattle.worked.proofs.Items.{T_true, spanned}
+use Rattle.worked.proofs.Items.{spanned}
 use Rattle.worked.proofs.Closed.{all_below, below_at, same_item, same_self}
 
 -- the children stand in order under rule r
@@ -49,7 +50,7 @@ matched_begins (c ∷ p) [] h = absurd (both_ways false refl h)
 matched_begins (c ∷ p) (w ∷ ws) h =
     let q = and_parts (w c) (matched p ws) h in
     let rest = matched_begins p ws q.1 in
-    ((T_true (w c) q.0, rest.0), omega (arith, rest.1))
+    ((T_from_true (w c) q.0, rest.0), omega (arith, rest.1))
 
 -- the rule with the children is a reading of the words by the part X
 unfoldable pub reading : Grammar → ℕ → List Word → ℕ → Children → Bool

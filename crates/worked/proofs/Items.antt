@@ -2,9 +2,10 @@
 --
 -- A list is shown to be exactly the items over the words by two tests: each item of it follows from those before it, and
 -- each item that follows from the whole list is in it.
-use Rattle.std.proofs.Common.{◌≡◌, ℕ, suc, Bool, true, ◌&&◌, ◌||◌, T, eqb, ltb, List, [], ◌∷◌, get_or, sym, subst, ⊎_elim}
+use Rattle.std.proofs.Common.{◌≡◌, ℕ, suc, Bool, true, ◌&&◌, ◌||◌, eqb, ltb, List, [], ◌∷◌, get_or, sym, subst, ⊎_elim}
 use Rattle.std.specs.List.{AllByRecursion}
 use Rattle.std.proofs.lemmas.Bool.{and_parts, or_cases, eqb-true, ltb-true}
+use Rattle.std.proofs.lemmas.Float.{T_from_true}
 use Rattle.language.specs.Book.{Grammar, left, size, symbol}
 use Rattle.language.specs.Words.{Word, blank}
 use Rattle.language.specs.Readings.{Item}
@@ -14,9 +15,6 @@ use Rattle.language.proofs.Members.{all_among}
 use Rattle.language.proofs.Tests.{key_test, rule_test}
 use Rattle.worked.proofs.Check.{any, any_member, has}
 use Rattle.worked.proofs.Corners.{corners, corners_sound}
-
-pub T_true : (b : Bool) → b ≡ true → T b
-T_true b e = subst T (sym e) tt
 
 module _ (g : Grammar) (ws : List Word) where
   -- u is a finished item of X from after word j to word k
@@ -63,7 +61,7 @@ module _ (g : Grammar) (ws : List Word) where
     word_spans X j k e =
         let p = and_parts (is_key g X) _ e in
         let q = and_parts (eqb k (suc j)) (get_or ws j blank X) p.1 in
-        subst (λ x. Spans g ws X j x) (sym (eqb-true k (suc j) q.0)) (word X j (key_test g X p.0) (T_true _ q.1))
+        subst (λ x. Spans g ws X j x) (sym (eqb-true k (suc j) q.0)) (word X j (key_test g X p.0) (T_from_true _ q.1))
 
     pub spanned_spans : (X j k : ℕ) → spanned ts X j k ≡ true → Spans g ws X j k
     unfolding spanned

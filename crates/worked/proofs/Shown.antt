@@ -3,6 +3,7 @@ use Rattle.std.proofs.Common.{◌≡◌, ℕ, ◌≤◌, Bool, true, false, not,
 use denote.Floats.{is_true}
 use Rattle.std.specs.List.{AllByRecursion}
 use Rattle.std.proofs.lemmas.Bool.{and_parts, and_from, eqb-true, eq-eqb, both_ways, not-true}
+use Rattle.std.proofs.lemmas.Float.{T_from_true}
 use Rattle.language.specs.Book.{Grammar, Numbered, left, size}
 use Rattle.language.specs.Words.{Word}
 use Rattle.language.specs.Readings.{Item, item}
@@ -13,7 +14,7 @@ use Rattle.language.specs.Drafts.{Items, Lit, LitKeys, MatchesLit}
 use Rattle.worked.proofs.Check.{any, every, any_member, member_any, every_member, has, has_among}
 use Rattle.language.proofs.Members.{all_among}
 use Rattle.language.proofs.Tests.{key_test, test_key}
-use Rattle.worked.proofs.Items.{T_true, ended, spanned, wants, wants_wanted, derived, derived_held}
+use Rattle.worked.proofs.Items.{ended, spanned, wants, wants_wanted, derived, derived_held}
 use Rattle.worked.proofs.Closed.{implies, implied, same_item, same_self, listed, closed, corners_listed, closed_next, closed_items, held_among, wanted_listed, spans_spanned}
 
 -- no item stands twice in the list
@@ -119,4 +120,4 @@ matches_none g ws w cs l h b = both_ways (w b.key) (not-true _ (every_member (λ
 
 -- a word that matches the lit key c
 pub matches : (g : Grammar) (ws : List Word) (w : Word) (cs : List ℕ) (c : ℕ) → LitKeys g ws cs → has c cs ≡ true → w c ≡ true → MatchesLit g ws w
-matches g ws w cs c l h m = record { key = c; lit = (l c).0 (has_among c cs h); matches = T_true _ m }
+matches g ws w cs c l h m = record { key = c; lit = (l c).0 (has_among c cs h); matches = T_from_true _ m }
