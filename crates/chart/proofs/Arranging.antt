@@ -1,6 +1,6 @@
 -- What may start after the new word, and its items with the unfinished ones in front.
-use Rattle.std.proofs.Common.{◌≡◌, ℕ, suc, ◌<◌, ◌≤◌, ◌||◌, IsTrue, ◌↔◌, sym, refl, ap, ◌∙◌, subst, ⊎_elim, arith}
-use Rattle.std.proofs.lemmas.Bool.{cases_eq, cases_lt, or_left, or_right, or_cases, both_ways}
+use Rattle.std.proofs.Common.{◌≡◌, ℕ, suc, ◌<◌, ◌≤◌, IsTrue, ◌↔◌, sym, refl, ap, ◌∙◌, subst, ⊎_elim, arith}
+use Rattle.std.proofs.lemmas.Bool.{cases_eq, cases_lt, both_ways}
 use Rattle.language.specs.Book.{Grammar, Numbered, size, symbol}
 use Rattle.language.specs.Chart.{Corner, Held, Wanted, self, down, first, next}
 use Rattle.rulebook.specs.Sets.{has}
@@ -12,11 +12,11 @@ use Rattle.chart.specs.Filling.{NextCorner, HeldHere, AllStand, Complete}
 use Rattle.chart.specs.Indexes.{corners_at}
 use Rattle.chart.specs.Ready.{Ready}
 use Rattle.chart.specs.Records.{grammar_of, words_with, used_of}
-use Rattle.chart.specs.Sifting.{Reordered, SplitAt, Sifted}
+use Rattle.chart.specs.Sifting.{Reordered, SplitAt}
 use Rattle.chart.specs.declared.boards.Board.{Board}
 use Rattle.chart.specs.declared.items.Item.{Item}
 use Rattle.chart.specs.declared.records.Settled.{Settled}
-use Rattle.chart.proofs.Plain.{Plain}
+use Rattle.chart.proofs.Plain.{Plain, first_low, first_high}
 use Rattle.chart.proofs.Entering.{plain_of}
 
 -- the left corners of a symbol of the book are symbols that a set can hold
@@ -26,7 +26,7 @@ pub record Known (X : ℕ) : Type 0 where
 
 pub corner_known : (g : Grammar) → Plain g → (X Y : ℕ) → Known X → Corner g X Y → Known Y
 corner_known g p X _ k self = k
-corner_known g p X _ k (down r n c) = record { low = p.symbol_low r 0 n (p.some_symbols r n); high = p.symbol_high r 0 n (p.some_symbols r n) }
+corner_known g p X _ k (down r n c) = record { low = first_low g p r n; high = first_high g p r n }
 
 -- some item from one place to before another has the left corner Y next
 pub record SomeNext (g : Grammar) (b : Board) (from past Y : ℕ) : Type 0 where
@@ -41,32 +41,6 @@ Gathered g b from past t = (Y : ℕ) → IsTrue (has t Y) ↔ SomeNext g b from 
 
 pub gathered_none : (g : Grammar) (b : Board) (from at : ℕ) → at ≤ from → Gathered g b from at (record { mask = 0 })
 gathered_none g b from at e Y = (λ h. absurd (both_ways _ (holds_none Y) h), λ x. absurd (omega (arith, x.low, x.high)))
-
-pub gathered_next : (g : Grammar) (b : Board) (from at m : ℕ) (t u v : SymbolSet) → from ≤ at → m ≡ suc at → Gathered g b from at t → ((Y : ℕ) → IsTrue (has u Y) ↔ NextCorner g (at_place b at) Y)
-    → ((Y : ℕ) → has v Y ≡ (has t Y || has u Y)) → Gathered g b from m v
-gathered_next g b from at m t u v low more was here join Y = (
-  λ h. ⊎_elim
-      (λ l. let x = (was Y).0 l in record { place = x.place; low = x.low; high = omega (arith, x.high); corner = x.corner })
-      (λ l. record { place = at; low = low; high = omega arith; corner = (here Y).0 l })
-      (or_cases (has t Y) (has u Y) (sym (join Y) ∙ h)),
-  λ x. join Y ∙ ⊎_elim
-      (λ same. or_right (has t Y) (has u Y) ((here Y).1 (subst (λ q. NextCorner g (at_place b q) Y) same x.corner)))
-      (λ ne. or_left (has t Y) (has u Y) ((was Y).1 (record { place = x.place; low = x.low; high = omega (arith, x.high); corner = x.corner })))
-      (cases_eq x.place at),
-)
-
--- nothing is put elsewhere
-pub reordered_itself : {from : ℕ} (b : Board) → Reordered from b b
-reordered_itself b = record { limit = refl; top = refl; long = refl; before = λ q l. refl; after = λ q l. refl }
-
-pub reordered_more : {from : ℕ} {a b c : Board} → Reordered from a b → Reordered from b c → Reordered from a c
-reordered_more {from} {a} {b} {c} x y = record {
-  limit = y.limit ∙ x.limit;
-  top = y.top ∙ x.top;
-  long = y.long ∙ x.long;
-  before = λ q l. y.before q l ∙ x.before q l;
-  after = λ q l. y.after q (omega (arith, x.top)) ∙ x.after q l;
-}
 
 module _ (s : Settled) (w : Matched) (ready : Ready s w) where
   -- the set of an unfinished item's next left corners
@@ -168,19 +142,3 @@ module _ (s : Settled) (w : Matched) (ready : Ready s w) where
             (λ same. subst (λ (t : Item). t.done ≡ size (grammar_of s) t.rule) (sym (ap (at_place new) same ∙ swap.second)) (split.finished a (omega arith) (omega arith)))
             (λ ne. subst (λ (t : Item). t.done ≡ size (grammar_of s) t.rule) (sym (swap.others q (λ x. omega arith) ne)) (split.finished q (omega arith) (omega arith)))
             (cases_eq q b)
-
-  -- nothing is changed over
-  pub sifted_none : (b : Board) (middle at m : ℕ) → m ≡ suc at → Complete s w b → SplitAt (grammar_of s) b (used_of s) middle at → (at_place b at).done ≡ size (grammar_of s) (at_place b at).rule → Sifted s w b b middle m
-  sifted_none b middle at m e all split here = record {
-    complete = all;
-    reordered = reordered_itself b;
-    split = record {
-      low = split.low;
-      high = omega (arith, split.high);
-      unfinished = split.unfinished;
-      finished = λ q k l. ⊎_elim (λ same. subst (λ x. (at_place b x).done ≡ size (grammar_of s) (at_place b x).rule) (sym same) here) (λ ne. split.finished q k (omega arith)) (cases_eq q at);
-    };
-  }
-
-  pub split_none : (b : Board) (at : ℕ) → at ≡ used_of s → SplitAt (grammar_of s) b (used_of s) at at
-  split_none b at e = record { low = omega arith; high = omega arith; unfinished = λ q k l. absurd (omega arith); finished = λ q k l. absurd (omega arith) }

@@ -5,17 +5,15 @@ use Rattle.std.proofs.Math.ListN.{get_or-map}
 use Rattle.std.proofs.lemmas.Bool.{cases_lt}
 use Rattle.language.specs.Book.{Grammar}
 use Rattle.language.specs.Readings.{Item as Told}
-use Rattle.language.specs.Chart.{Held}
 use Rattle.soundbook.specs.declared.sounds.SoundBook.{SoundBook}
 use Rattle.rulebook.specs.Presses.{Outnumber}
 use Rattle.rulebook.specs.declared.faults.Fault.TheVariants.{ChartFull}
 use Rattle.wording.specs.declared.pressed.Matched.{Matched}
 use Rattle.chart.specs.Boards.{Cut, Fresh, at_place}
 use Rattle.chart.specs.Calls.{RubbedOut}
-use Rattle.chart.specs.Filling.{Standing}
-use Rattle.chart.specs.Items.{entry, blank_item, told, blank_told}
+use Rattle.chart.specs.Items.{blank_item, told, blank_told}
 use Rattle.chart.specs.Kept.{Kept, Recorded, Crowded}
-use Rattle.chart.specs.Records.{grammar_of, words_of, words_with, record_of, blank_record, matching, past_of}
+use Rattle.chart.specs.Records.{grammar_of, words_with, blank_record, matching}
 use Rattle.chart.specs.States.{WordRecord, State, no_word, record_at, words, blanked, opened, before, Stands}
 use Rattle.chart.specs.Takings.{Taken, NotTaken}
 use Rattle.chart.specs.Views.{recorded, state_of}
@@ -24,7 +22,7 @@ use Rattle.chart.specs.declared.indexes.Index.{Index}
 use Rattle.chart.specs.declared.items.Item.{Item}
 use Rattle.chart.specs.declared.records.Record.{Record}
 use Rattle.chart.specs.declared.records.Settled.{Settled}
-use Rattle.chart.proofs.Keeping.{same_column, OneMore, more_of, less_of, words_more, one_written, one_blanked, kept_more, kept_less}
+use Rattle.chart.proofs.Keeping.{OneMore, more_of, less_of, words_more, one_written, one_blanked, kept_more, kept_less}
 use Rattle.chart.proofs.Seen.{blanked_is, words_seen, record_seen, stands}
 
 -- states of the same numbers and lists are one
@@ -108,24 +106,6 @@ module _ (s : Settled) (w : Matched) (old mid new : Board) (kept : Kept s old) (
 
   pub refused_seen : state_of s new ≡ state_of s old
   refused_seen = states_alike refl (ap (map told) same_chart) (cut.limit ∙ full.limit) refl refl cut.top
-
-  same_standing : (from past : ℕ) (t : Item) → Standing old from past t → Standing new from past t
-  same_standing from past t x = record { place = x.place; low = x.low; high = x.high; is = same_place x.place ∙ x.is }
-
-  pub refused_kept : Kept s new
-  refused_kept = record {
-    index = kept.index;
-    long = kept.long;
-    limit = (cut.limit ∙ full.limit) ∙ (kept.limit ∙ ap (λ xs. min 60000 (length xs)) (sym same_chart));
-    top = cut.top ∙ kept.top;
-    items = λ q l. subst (λ (t : Item). Held (grammar_of s) (words_of s) t.rule t.done t.start t.end) (sym (same_place q)) (kept.items q (omega (arith, cut.top)));
-    apart = λ p q l h e. kept.apart p q l (omega (arith, cut.top)) (sym (same_place p) ∙ (e ∙ same_place q));
-    all = λ r d i k h. same_standing (record_of s k).from (record_of s k).past (entry r d i k) (kept.all r d i k h);
-    wanted = kept.wanted;
-    columns = λ k some l. let c = kept.columns k some l in same_column (grammar_of s) old new k (past_of s (k - 1)) (record_of s k) (λ q high. same_place q) (omega (arith, c.within, cut.top)) c;
-    cleared = kept.cleared;
-    blank = λ q l h. same_place q ∙ kept.blank q (omega (arith, cut.top)) (omega (arith, cut.limit, full.limit));
-  }
 
 -- the last word is rubbed out of a draft
 module _ (s : Settled) (old new : Board) (kept : Kept s old) (n place : ℕ) (few : n ≤ 100) (here : place ≡ n) (some : s.held ≡ suc n) (cut : Cut old new (get_or s.records place blank_record).from) where

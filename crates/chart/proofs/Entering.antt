@@ -43,13 +43,15 @@ extends_more {a} {b} {c} x y = record {
   marks = λ r d i k h. y.marks r d i k (x.marks r d i k h);
 }
 
--- what stands at a place still does
-pub standing_more : {a b : Board} → Extends a b → {from past : ℕ} {t : Item} → past ≤ a.top → Standing a from past t → Standing b from past t
-standing_more e h s = record { place = s.place; low = s.low; high = s.high; is = e.before s.place (omega (arith, s.high)) ∙ s.is }
-
 -- the bounds of the book
 pub plain_of : (s : Settled) → Plain (grammar_of s)
 plain_of s = plain (sound_meaning s.book.now) s.book.now.sound
+
+-- an item that is known, told by its three numbers and its end
+pub held_at : (s : Settled) (w : Matched) (t u : Item) (k : ℕ) → t ≡ u → u.end ≡ k → HeldHere s w u → Held (grammar_of s) (words_with s w) t.rule t.done t.start k
+held_at s w t u k is end held =
+    subst (Held (grammar_of s) (words_with s w) t.rule t.done t.start) (ap (λ (x : Item). x.end) is ∙ end)
+    (subst (HeldHere s w) (sym is) held)
 
 module _ (s : Settled) (w : Matched) (ready : Ready s w) where
   -- there are at most 100 words

@@ -1,6 +1,6 @@
 -- All that follows from the keys of the new word, and from what is entered.
-use Rattle.std.proofs.Common.{◌≡◌, ℕ, suc, ◌<◌, ◌≤◌, Bool, true, false, T, ◌||◌, [], length, get_or, take, replicate, sym, refl, ap, ◌∙◌, subst, ⊎_elim, arith}
-use Rattle.std.proofs.lemmas.List.{length-map, length-take-le, get_or_at, get_or-replicate, get_or_past, length-replicate}
+use Rattle.std.proofs.Common.{◌≡◌, ℕ, suc, ◌<◌, ◌≤◌, Bool, true, false, T, ◌||◌, [], get_or, replicate, sym, refl, ap, ◌∙◌, subst, ⊎_elim, arith}
+use Rattle.std.proofs.lemmas.List.{get_or_at, get_or-replicate, get_or_past, length-replicate}
 use Rattle.std.proofs.lemmas.Bool.{cases_eq, cases_lt, or_left, or_right, or_cases, and_parts, and_from, eq-eqb, eqb-true}
 use Rattle.std.proofs.lemmas.Float.{T_from_true}
 use Rattle.language.specs.Book.{Key, left, size}
@@ -21,10 +21,10 @@ use Rattle.chart.specs.Records.{grammar_of, words_of, words_with, matching, used
 use Rattle.chart.specs.declared.boards.Board.{Board}
 use Rattle.chart.specs.declared.items.Item.{Item}
 use Rattle.chart.specs.declared.marks.Parts.{Parts}
-use Rattle.chart.specs.declared.records.Record.{Record}
 use Rattle.chart.specs.declared.records.Settled.{Settled}
-use Rattle.chart.proofs.Entering.{plain_of, held_start}
+use Rattle.chart.proofs.Entering.{plain_of, held_at, held_start}
 use Rattle.chart.proofs.Spanning.{rule_small, next_small, span_more}
+use Rattle.chart.proofs.Starting.{words_held}
 
 -- a test that passes says yes
 pub passed_test : (b : Bool) → T b → b ≡ true
@@ -43,11 +43,8 @@ none_known X i = ⊎_elim
 
 module _ (s : Settled) (w : Matched) (ready : Ready s w) where
   -- the new word is the last
-  words_long : length (words_of s) ≡ s.held
-  words_long = length-map (take s.held s.records) (λ (r : Record). matching r.word) ∙ length-take-le s.held s.records (omega (arith, ready.long, ready.few))
-
   pub last_word : get_or (words_with s w) s.held blank ≡ matching w
-  last_word = get_or_at (words_of s) (matching w) [] blank s.held words_long
+  last_word = get_or_at (words_of s) (matching w) [] blank s.held (words_held s ready.long)
 
   -- a key that the new word matches spans
   pub key_spans : (c : ℕ) → Key (grammar_of s) c → has w.keys c ≡ true → SpansHere s w c s.held
@@ -70,9 +67,7 @@ module _ (s : Settled) (w : Matched) (ready : Ready s w) where
 
   -- what stands at a place of the new column is an item that ends at the new word
   pub column_held : (b : Board) (at : ℕ) (t : Item) → Filling s w b → used_of s ≤ at → at < b.top → t ≡ at_place b at → Held (grammar_of s) (words_with s w) t.rule t.done t.start (suc s.held)
-  column_held b at t was low high is =
-      subst (Held (grammar_of s) (words_with s w) t.rule t.done t.start) (ap (λ (x : Item). x.end) is ∙ was.column at low high)
-      (subst (λ (x : Item). Held (grammar_of s) (words_with s w) x.rule x.done x.start x.end) (sym is) (was.items at high))
+  column_held b at t was low high is = held_at s w t (at_place b at) (suc s.held) is (was.column at low high) (was.items at high)
 
   -- a finished item of the new column: its left side spans
   pub item_spans : (t : Item) (X : ℕ) → X ≡ left (grammar_of s) t.rule → Held (grammar_of s) (words_with s w) t.rule t.done t.start (suc s.held) → t.done ≡ size (grammar_of s) t.rule → SpansHere s w X t.start
@@ -118,14 +113,6 @@ module _ (s : Settled) (w : Matched) (ready : Ready s w) where
             (λ same. subst (λ x. has (parts_at new x) Y ≡ true) (sym same) (here Y ∙ or_right (is_symbol X Y) _ (subst (λ x. has (parts_at old x) Y ≡ true) same h)))
             (λ ne. subst (λ (x : SymbolSet). has x Y ≡ true) (sym (others i ne)) h)
             (cases_eq i t.start)
-
-  -- the places before one are still followed up, and that one is
-  pub followed_next : (a b : Board) (old new : Parts) (at m : ℕ) → Extends a b → at < a.top → FollowedUp s w b old new (at_place a at) → m ≡ suc at
-      → ((q : ℕ) → used_of s ≤ q → q < at → Followed s w old (at_place a q)) → (q : ℕ) → used_of s ≤ q → q < m → Followed s w new (at_place b q)
-  followed_next a b old new at m e inside up more before q low high = subst (λ (t : Item). Followed s w new t) (sym (e.before q (omega arith))) (⊎_elim
-      (λ same. subst (λ x. Followed s w new (at_place a x)) (sym same) up.followed)
-      (λ ne f. up.kept _ _ (before q low (omega arith) f))
-      (cases_eq q at))
 
   -- an item that needs no following up
   pub followed_none : (b : Board) (p : Parts) (t : Item) → PartsDone s w b p → Followed s w p t → FollowedUp s w b p p t

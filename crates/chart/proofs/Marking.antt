@@ -19,7 +19,7 @@ rule_added m q h r k =
     ∙ (bit_set m (q - 1) (r - 1)
     ∙ ap (λ b. b || bit m (r - 1)) (⊎_elim (λ e. eq-eqb (q - 1) (r - 1) (omega arith) ∙ sym (eq-eqb q r e)) (λ ne. ne_eqb (q - 1) (r - 1) (λ e. ne (omega (arith, h.low, k.low))) ∙ sym (ne_eqb q r ne)) (cases_eq q r)))
 
--- the set that is no rule
+-- the set of no rule
 abbrev no_rule : RuleSet
 no_rule = record { mask = 0 }
 

@@ -20,6 +20,13 @@ pub record Plain (g : Grammar) : Type 0 where
   -- a symbol from 33 on is a key of the book
   pub symbol_key : (r d : ℕ) → Numbered g r → d < size g r → 33 ≤ symbol g r d → symbol g r d ≤ 32 + g.keys
 
+-- so has the first symbol of a rule its bounds
+pub first_low : (g : Grammar) → Plain g → (r : ℕ) → Numbered g r → 1 ≤ symbol g r 0
+first_low g p r n = p.symbol_low r 0 n (p.some_symbols r n)
+
+pub first_high : (g : Grammar) → Plain g → (r : ℕ) → Numbered g r → symbol g r 0 ≤ 64
+first_high g p r n = p.symbol_high r 0 n (p.some_symbols r n)
+
 module _ (m : Meaning) (sound : ∥ Sound m ∥₁) where
   abbrev known : (x y : ℕ) → (Sound m → x ≤ y) → x ≤ y
   known x y f = ∥∥₁_elim sound le_prop f

@@ -1,5 +1,5 @@
 -- All that follows from a symbol that spans, rule by rule and item by item.
-use Rattle.std.proofs.Common.{◌≡◌, ℕ, suc, ◌<◌, ◌≤◌, length, sym, ap, ◌∙◌, subst, ⊎_elim, arith}
+use Rattle.std.proofs.Common.{◌≡◌, ℕ, suc, ◌<◌, ◌≤◌, length, sym, ◌∙◌, subst, ⊎_elim, arith}
 use Rattle.std.specs.Prelude.{Result, MatchResult}
 use Rattle.std.proofs.lemmas.List.{get_or_past}
 use Rattle.std.proofs.lemmas.Bool.{cases_eq, cases_lt}
@@ -16,7 +16,7 @@ use Rattle.chart.specs.Records.{grammar_of, words_with, record_of}
 use Rattle.chart.specs.declared.boards.Board.{Board}
 use Rattle.chart.specs.declared.items.Item.{Item}
 use Rattle.chart.specs.declared.records.Settled.{Settled}
-use Rattle.chart.proofs.Entering.{plain_of, extends_more, held_small, span_start, bounds, item_entered, advanced_held}
+use Rattle.chart.proofs.Entering.{plain_of, held_at, extends_more, held_small, span_start, bounds, item_entered, advanced_held}
 
 module _ (s : Settled) (w : Matched) where
   -- every rule above r that begins with X is begun, and r begins with X where it is one
@@ -103,8 +103,7 @@ module _ (s : Settled) (w : Matched) (ready : Ready s w) where
       → Held (grammar_of s) (words_with s w) t.rule t.done t.start i
   waiting_held b i q t was some l low high is =
       let c = was.columns i q some l low high in
-      subst (λ k. Held (grammar_of s) (words_with s w) t.rule t.done t.start k) (ap (λ (x : Item). x.end) is ∙ c.1)
-      (subst (λ (x : Item). Held (grammar_of s) (words_with s w) x.rule x.done x.start x.end) (sym is) (was.items q (omega (arith, c.0, was.begins))))
+      held_at s w t (at_place b q) i is c.1 (was.items q (omega (arith, c.0, was.begins)))
 
   -- what is known of an item that waits after a word, where its next symbol spans
   pub record Advanceable (t : Item) (i : ℕ) : Type 0 where

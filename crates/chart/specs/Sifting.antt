@@ -8,7 +8,7 @@ use Rattle.chart.specs.Records.{grammar_of, used_of}
 use Rattle.chart.specs.declared.boards.Board.{Board}
 use Rattle.chart.specs.declared.records.Settled.{Settled}
 
--- the places from one to the end of those in use hold other items, and no others do
+-- only the places in use from one on are written
 pub record Reordered (from : ℕ) (old new : Board) : Type 0 where
   pub limit : new.limit ≡ old.limit
   pub top : new.top ≡ old.top

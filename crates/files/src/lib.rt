@@ -1,4 +1,4 @@
-// Files that may be missing.
+// Files that may be missing, and the front of what a reader has left.
 #![tactic(auto)]
 
 ghost use Rattle.std.specs.Prelude.{◌≡◌, ◌≤◌, take, vec_len, IfOk, IfSome};

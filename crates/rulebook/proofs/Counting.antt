@@ -1,26 +1,21 @@
 -- How many symbols a set holds: the ones of its mask.
-use Rattle.std.proofs.Common.{◌≡◌, ℕ, zero, suc, ◌-◌, ◌/◌, ◌%◌, ◌^◌, ◌<◌, false, cond, ◌&&◌, eqb, map, sym, refl, ap, ◌∙◌, arith}
+use Rattle.std.proofs.Common.{◌≡◌, ℕ, zero, suc, ◌/◌, ◌%◌, ◌^◌, ◌<◌, false, cond, eqb, map, sym, refl, ap, ◌∙◌, arith}
 use Rattle.std.specs.Prelude.{count_ones}
 use Rattle.std.specs.List.{range_with_len}
 use lib.Lanes.{mask_l}
-use Rattle.std.proofs.lemmas.Bool.{and_from, le-leb}
 use Rattle.std.proofs.lemmas.List.FromFn.{get_or-map-range_with_len}
 use Rattle.std.proofs.lemmas.Nat.Bits.{bit_at-lt, same_from_bits_below}
 use Rattle.std.proofs.lemmas.Simd.{bit_mask_l, mask_l-lt, ones-mask_l}
 use Rattle.language.specs.Masks.{bit}
-use Rattle.rulebook.specs.Sets.{holds, has, many}
+use Rattle.rulebook.specs.Sets.{has, many}
 use Rattle.rulebook.specs.declared.sets.SymbolSet.{SymbolSet}
+use Rattle.rulebook.proofs.Holding.{holds_inside}
 
 -- a number below 2 by whether it is 1
 by_test : (x : ℕ) → x < 2 → x ≡ cond (eqb x 1) 1 0
 by_test zero h = refl
 by_test (suc zero) h = refl
 by_test (suc (suc x)) h = absurd (omega arith)
-
--- symbol i + 1 stands at bit i
-held_bit : (s : SymbolSet) (i : ℕ) → i < 64 → has s (suc i) ≡ bit s.mask i
-unfolding holds
-held_bit s i l = ap (λ b. b && bit s.mask (suc i - 1)) (and_from _ _ (le-leb 1 (suc i) (omega arith)) (le-leb (suc i) 64 (omega arith))) ∙ ap (bit s.mask) (omega arith)
 
 -- the mask is that of what it holds, symbol by symbol
 mask_is : (s : SymbolSet) → s.mask < 2 ^ 64 → s.mask ≡ mask_l (map (has s) (range_with_len 1 64))
@@ -30,7 +25,7 @@ mask_is s fits = same_from_bits_below 64 s.mask (mask_l (map (has s) (range_with
     same : (i : ℕ) → i < 64 → s.mask / 2 ^ i % 2 ≡ mask_l (map (has s) (range_with_len 1 64)) / 2 ^ i % 2
     same i l =
         by_test (s.mask / 2 ^ i % 2) (bit_at-lt s.mask i)
-        ∙ (ap (λ b. cond b 1 0) (sym (held_bit s i l))
+        ∙ (ap (λ b. cond b 1 0) (holds_inside s.mask i (suc i) l (omega arith))
         ∙ (ap (λ b. cond b 1 0) (sym (get_or-map-range_with_len (has s) 1 64 i (suc i) false l (omega arith)))
         ∙ sym (bit_mask_l (map (has s) (range_with_len 1 64)) i)))
 

@@ -7,12 +7,14 @@ use Rattle.language.specs.Masks.{bit}
 use Rattle.language.proofs.Masks.{bit_set, bit_none}
 use Rattle.rulebook.specs.Sets.{holds, symbolic, is_symbol}
 
+-- a number below 1 or above 64 is no symbol, any other is
 pub outside : (c : ℕ) → (c < 1) ⊎ (1 + 64 ≤ c) → symbolic c ≡ false
 outside c = ⊎_elim (λ h. and_left _ _ (lt-leb 1 c h)) (λ h. and_right _ _ (lt-leb c 64 h))
 
 inside : (i c : ℕ) → i < 64 → 1 + i ≡ c → symbolic c ≡ true
 inside i c h e = and_from _ _ (le-leb 1 c (omega arith)) (le-leb c 64 (omega arith))
 
+-- symbol i + 1 stands at bit i
 pub holds_inside : (m : ℕ) (i c : ℕ) → i < 64 → 1 + i ≡ c → bit m i ≡ holds m c
 unfolding holds
 holds_inside m i c h e = ap (bit m) (omega arith) ∙ ap (λ b. b && bit m (c - 1)) (sym (inside i c h e))

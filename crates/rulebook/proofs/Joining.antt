@@ -5,7 +5,9 @@ use Rattle.std.proofs.lemmas.Nat.Bits.{bit_at_or, bit_at_and, bit_at-lt, bit_at-
 use Rattle.std.proofs.lemmas.Bool.{le-leb, lt-leb, leb-true, both_ways, cases_Bool, cases_lt, and_from, and_left, and_right, and_parts}
 use Rattle.language.specs.Masks.{bit}
 use Rattle.rulebook.specs.Sets.{holds, symbolic, key_number}
+use Rattle.rulebook.proofs.Holding.{holds_inside}
 
+-- the greater and the lesser of two digits, by whether they are 1
 max_test : (x y : ℕ) → x < 2 → y < 2 → eqb (max x y) 1 ≡ (eqb x 1 || eqb y 1)
 max_test zero zero h k = refl
 max_test zero (suc zero) h k = refl
@@ -54,10 +56,7 @@ holds_nothing m fits none = same_from_bits_below 64 m 0 fits (omega arith) clear
 
     clear : (i : ℕ) → i < 64 → m / 2 ^ i % 2 ≡ 0 / 2 ^ i % 2
     clear i l =
-        let known : symbolic (suc i) ≡ true = and_from _ _ (le-leb 1 (suc i) (omega arith)) (le-leb (suc i) 64 (omega arith)) in
-        let same : suc i - 1 ≡ i = omega arith in
-        let unset : eqb (m / 2 ^ i % 2) 1 ≡ false = ap (λ k. eqb (m / 2 ^ k % 2) 1) (sym same) ∙ (ap (λ b. b && eqb (m / 2 ^ (suc i - 1) % 2) 1) (sym known) ∙ none (suc i)) in
-        off (m / 2 ^ i % 2) (bit_at-lt m i) unset ∙ sym (bit_at-zero i)
+        off (m / 2 ^ i % 2) (bit_at-lt m i) (holds_inside m i (suc i) l (omega arith) ∙ none (suc i)) ∙ sym (bit_at-zero i)
 
 -- the bits 32 to 63 are the keys
 pub holds_keys : (c : ℕ) → holds 18446744069414584320 c ≡ key_number c

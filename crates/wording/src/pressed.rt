@@ -37,8 +37,7 @@ impl Matched {
     pub fn keys(&self) -> SymbolSet
         ensures { result ≡ self.now.keys }
     {
-        let Matched { keys } = self;
-        *keys
+        self.keys
     }
 
     // The set of keys that a word matches.

@@ -3,7 +3,7 @@ use Rattle.std.proofs.lemmas.List.{length-set, get_or-replicate}
 use Rattle.language.specs.Book.{Numbered}
 use Rattle.soundbook.specs.Sounds.{sound_meaning}
 use Rattle.chart.specs.Indexes.{ChainOf}
-use Rattle.chart.proofs.Plain.{plain}
+use Rattle.chart.proofs.Plain.{first_high, plain}
 use Rattle.chart.proofs.Chained.{no_chains, linked_at}
 use Rattle.chart.proofs.indexes.chains_of.Goals as goal
 
@@ -14,7 +14,7 @@ pub bounds-chains-first : goal.bounds-chains-first
 bounds-chains-first c =
     let p = plain _ c.args.book.now.sound in
     let n : Numbered (sound_meaning c.args.book.now).grammar (c.loop-place.place + 1) = record { low = omega arith; high = omega (arith, c.loop-place.invariant.end) } in
-    omega (arith, c.from-first.ensures, c.symbol.ensures, p.symbol_high (c.loop-place.place + 1) 0 n (p.some_symbols (c.loop-place.place + 1) n))
+    omega (arith, c.from-first.ensures, c.symbol.ensures, first_high _ p (c.loop-place.place + 1) n)
 
 pub bounds-chains-from : goal.bounds-chains-from
 bounds-chains-from c =
@@ -25,13 +25,13 @@ pub bounds-chains-first-in-loop-place : goal.bounds-chains-first-in-loop-place
 bounds-chains-first-in-loop-place c =
     let p = plain _ c.args.book.now.sound in
     let n : Numbered (sound_meaning c.args.book.now).grammar (c.loop-place.place + 1) = record { low = omega arith; high = omega (arith, c.loop-place.invariant.end) } in
-    omega (arith, c.from-first.ensures, c.symbol.ensures, p.symbol_high (c.loop-place.place + 1) 0 n (p.some_symbols (c.loop-place.place + 1) n))
+    omega (arith, c.from-first.ensures, c.symbol.ensures, first_high _ p (c.loop-place.place + 1) n)
 
 pub loop-place-preserved : goal.loop-place-preserved
 loop-place-preserved c =
     let p = plain _ c.args.book.now.sound in
     let n : Numbered (sound_meaning c.args.book.now).grammar (c.loop-place.place + 1) = record { low = omega arith; high = omega (arith, c.loop-place.invariant.end) } in
-    let small = p.symbol_high (c.loop-place.place + 1) 0 n (p.some_symbols (c.loop-place.place + 1) n) in
+    let small = first_high _ p (c.loop-place.place + 1) n in
     let was = c.loop-place.invariant in
     record {
       end = c.rules-place-end.ensures;
