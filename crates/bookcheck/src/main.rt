@@ -2,9 +2,10 @@
 #![tactic(auto)]
 
 use bookreport::{read_book, report_of};
+use std::fs;
 
 fn main(rt: HostRuntime) -> anyhow::Result<()> {
-    let text = read_book(&rt)?;
+    let text = read_book(rt.alloc(), fs::open(&rt, "press.book"))?;
     rt.print(report_of(rt.alloc(), text.as_slice())?)?;
     Ok(())
 }

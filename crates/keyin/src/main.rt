@@ -3,10 +3,11 @@
 
 use bookreport::read_book;
 use keying::{keyed, read_programme};
+use std::fs;
 
 fn main(rt: HostRuntime) -> anyhow::Result<()> {
-    let book = read_book(&rt)?;
-    let programme = read_programme(&rt)?;
+    let book = read_book(rt.alloc(), fs::open(&rt, "press.book"))?;
+    let programme = read_programme(rt.alloc(), rt.reader())?;
     rt.print(keyed(rt.alloc(), book.as_slice(), programme.as_slice())?)?;
     Ok(())
 }
