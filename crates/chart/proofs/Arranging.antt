@@ -16,7 +16,7 @@ use Rattle.chart.specs.Sifting.{Reordered, SplitAt}
 use Rattle.chart.specs.declared.boards.Board.{Board}
 use Rattle.chart.specs.declared.items.Item.{Item}
 use Rattle.chart.specs.declared.records.Settled.{Settled}
-use Rattle.chart.proofs.Plain.{Plain, first_low, first_high}
+use Rattle.soundbook.proofs.Plain.{Plain, first_low, first_high}
 use Rattle.chart.proofs.Entering.{plain_of}
 
 -- the left corners of a symbol of the book are symbols that a set can hold

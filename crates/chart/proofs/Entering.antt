@@ -22,7 +22,7 @@ use Rattle.chart.specs.declared.records.Record.{Record}
 use Rattle.chart.specs.declared.records.Settled.{Settled}
 use Rattle.chart.proofs.Places.{all_at, apart_at}
 use Rattle.chart.specs.Ready.{Ready}
-use Rattle.chart.proofs.Plain.{Plain, plain}
+use Rattle.soundbook.proofs.Plain.{Plain, plain}
 
 -- the items in use and one more
 abbrev one_more : Board → Item → List Item

@@ -6,7 +6,6 @@ pub mod Following
 pub mod Keeping
 pub mod Marking
 pub mod Places
-pub mod Plain
 pub mod Arranging
 pub mod Pressing
 pub mod Seen

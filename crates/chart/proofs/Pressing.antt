@@ -26,7 +26,7 @@ use Rattle.chart.specs.declared.boards.Board.{Board}
 use Rattle.chart.specs.declared.records.Settled.{Settled}
 use Rattle.chart.proofs.Entering.{plain_of}
 use Rattle.chart.proofs.Following.{passed_test}
-use Rattle.chart.proofs.Plain.{Plain}
+use Rattle.soundbook.proofs.Plain.{Plain}
 use Rattle.chart.proofs.Seen.{words_seen}
 use Rattle.chart.proofs.Starting.{words_held, kept_bounds}
 

@@ -5,6 +5,7 @@ pub mod Closure
 pub mod Columns
 pub mod Corners
 pub mod Drafts
+pub mod FirstStack
 pub mod Machine
 pub mod Masks
 pub mod Moves

@@ -5,6 +5,7 @@
 ghost use Rattle.language.specs.Choice.{ChoiceTheorem, ItemsTheorem};
 ghost use Rattle.language.specs.Columns.{ColumnsTheorem};
 ghost use Rattle.language.specs.Corners.{CornersTheorem};
+ghost use Rattle.language.specs.FirstStack.{FirstStackTheorem};
 ghost use Rattle.language.specs.Moves.{MovesTheorem, RunTheorem};
 ghost use Rattle.language.specs.Order.{FirstTheorem};
 ghost use Rattle.language.specs.Outside.{OutsideTheorem};
@@ -28,6 +29,11 @@ pub fn columns_theorem()
 // The left corners of a symbol are decided by a mask.
 pub fn corners_theorem()
     ensures { CornersTheorem }
+{}
+
+// At most one part lies above the words that the machine has not yet read.
+pub fn first_stack_theorem()
+    ensures { FirstStackTheorem }
 {}
 
 // Words that a part reads have a first reading, and only one.

@@ -3,5 +3,6 @@ pub mod Deriving
 pub mod Finding
 pub mod Growing
 pub mod Listing
+pub mod Plain
 pub mod Refusing
 pub mod Smallest

@@ -47,7 +47,7 @@ module _ (g : Grammar) where
   refused (n ∷ ns) h = refused ns h
 
   -- a step is a move, a removal or a reduction by a rule, or refused
-  step_cases : (s : State) (n : ℕ) (P : Option State → Type 0) → (n ≡ 0 → P (move s.first s.second s.third))
+  pub step_cases : (s : State) (n : ℕ) (P : Option State → Type 0) → (n ≡ 0 → P (move s.first s.second s.third))
       → (n ≡ 129 → P (remove g s.first s.second s.third)) → (Numbered g n → P (reduce g n s.first s.second s.third)) → P none → P (step g s n)
   step_cases s n P moved removed reduced no_step =
       cond_both (eqb n 0) _ _ P (λ e. moved (eqb-true n 0 e)) λ e.

@@ -3,7 +3,7 @@ use Rattle.std.proofs.lemmas.List.{length-set, get_or-replicate}
 use Rattle.language.specs.Book.{Numbered}
 use Rattle.soundbook.specs.Sounds.{sound_meaning}
 use Rattle.chart.specs.Indexes.{ChainOf}
-use Rattle.chart.proofs.Plain.{first_high, plain}
+use Rattle.soundbook.proofs.Plain.{first_high, plain}
 use Rattle.chart.proofs.Chained.{no_chains, linked_at}
 use Rattle.chart.proofs.indexes.chains_of.Goals as goal
 

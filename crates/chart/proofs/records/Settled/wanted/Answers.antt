@@ -1,5 +1,5 @@
 use Rattle.std.proofs.Common.{arith}
-use Rattle.chart.proofs.Plain.{plain}
+use Rattle.soundbook.proofs.Plain.{plain}
 use Rattle.chart.proofs.records.Settled.wanted.Goals as goal
 
 pub corners-requires : goal.corners-requires

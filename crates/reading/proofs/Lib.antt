@@ -1,0 +1,4 @@
+pub mod Judged
+pub mod Moving
+pub mod Running
+pub mod Stacked
