@@ -1,8 +1,9 @@
 #!/usr/bin/env python3
-"""An outside reference for keyin and the draft: it shares no code with the product, and says what they must print.
+"""An outside reference for keyin, the draft and replay: it shares no code with the product, and says what they must print.
 
     reference.py keys DIR     what crates/keysamples must print of the samples in DIR
     reference.py drafts DIR   what crates/draftsamples must print of the runs in DIR
+    reference.py replays DIR  what crates/replaysamples must print of the samples in DIR
 """
 import os
 import re
@@ -233,9 +234,77 @@ def run(book_text, text):
     return said + "     %d blank, %d as before\n" % (draft.places - len(items), places - draft.places)
 
 
+class Machine:
+    """Three stacks as lists, their tops last; an entry of the first is a set of keys or a part, an end mark is None."""
+
+    def __init__(self, book, words, second, third):
+        self.book, self.room = book, (second, third)
+        self.first = list(reversed(words))
+        self.second, self.third = [book.start], []
+
+    def fits(self):
+        return len(self.second) <= self.room[0] and len(self.third) <= self.room[1]
+
+    def agrees(self, symbol):
+        top = self.first[-1]
+        return symbol in top if isinstance(top, set) and self.book.is_key(symbol) else symbol == top
+
+    def symbol_comes(self):
+        return bool(self.first and self.second and self.second[-1] is not None)
+
+    def move(self, number):
+        """Whether the move is allowed; if so, it is made."""
+        if number == 0:
+            if not (self.second and self.second[-1] is None and self.third):
+                return False
+            self.second.pop()
+            self.first.append(self.third.pop())
+        elif number == 129:
+            if not (self.symbol_comes() and self.agrees(self.second[-1])):
+                return False
+            self.first.pop()
+            self.second.pop()
+        else:
+            if not 1 <= number <= len(self.book.rules):
+                return False
+            left, _, body = self.book.rules[number - 1]
+            if not (self.symbol_comes() and self.agrees(body[0])):
+                return False
+            self.first.pop()
+            self.second += [None] + list(reversed(body[1:]))
+            self.third.append(left)
+        return True
+
+
+def replayed(book, words, moves, second, third):
+    machine = Machine(book, words, second, third)
+    if not machine.fits():
+        raise Fault(33, 4, 0, 0)
+    for count, number in enumerate(moves, 1):
+        if not machine.move(number):
+            raise Fault(31, 4, count, 0)
+        if not machine.fits():
+            raise Fault(33, 4, count, 0)
+    if machine.first or machine.second or machine.third:
+        raise Fault(32, 4, len(moves), 0)
+
+
+def replay(book_text, text):
+    book, run = Book(book_text), text.split()
+    second, third, count = map(int, run[:3])
+    words = [word_of(book, 0, w) if not w.isdigit() else {int(w)} for w in run[3:3 + count]]
+    moves = [int(w) for w in run[3 + count:]]
+    try:
+        replayed(book, words, moves, second, third)
+        said = "accepted\n"
+    except Fault as fault:
+        said = fault.line()
+    return said + "     %d and %d places zeroed\n" % (second, third)
+
+
 def main():
     way, folder = sys.argv[1:]
-    end, tell = {"keys": (".text", keyed), "drafts": (".steps", run)}[way]
+    end, tell = {"keys": (".text", keyed), "drafts": (".steps", run), "replays": (".moves", replay)}[way]
     for name in sorted(n for n in os.listdir(folder) if n.endswith(end)):
         text = open(os.path.join(folder, name), "rb").read()
         book = open(os.path.join(folder, name.replace(end, ".book")), "rb").read()
