@@ -41,7 +41,7 @@ pub struct Stack<'a, T: Blank> {
 }
 
 impl<'a, T: Blank> Stack<'a, T> {
-    ghost use Rattle.reading.specs.Stacks.{stacked, places};
+    ghost use Rattle.reading.specs.Stacks.{places, stacked, SameRoom};
 
     // An empty stack.
     pub fn over(room: &'a mut [T]) -> Stack<'a, T>
@@ -54,9 +54,8 @@ impl<'a, T: Blank> Stack<'a, T> {
 
     // Puts an element on top; a full stack refuses it and stays.
     pub fn push(&mut self, item: T) -> Result<(), Full>
-        ensures same_room { self.new.room.ghost_name ≡ self.old.room.ghost_name }
-        ensures places { places self.new ≡ places self.old }
-        ensures taken { MatchResult result (λ _. stacked self.new ≡ item ∷ stacked self.old) (λ _. (stacked self.new ≡ stacked self.old) × (length (stacked self.old) ≡ places self.old)) }
+        ensures room { SameRoom self.old self.new }
+        ensures taken { MatchResult result (λ _. stacked self.new ≡ item ∷ stacked self.old) (λ _. (self.new ≡ self.old) × (length (stacked self.old) ≡ places self.old)) }
     {
         if self.len == self.room.len() {
             return Err(Full);
@@ -68,8 +67,7 @@ impl<'a, T: Blank> Stack<'a, T> {
 
     // Takes the top off, or none where there is none.
     pub fn pop(&mut self) -> Option<T>
-        ensures same_room { self.new.room.ghost_name ≡ self.old.room.ghost_name }
-        ensures places { places self.new ≡ places self.old }
+        ensures room { SameRoom self.old self.new }
         ensures taken { MatchOption result ((stacked self.old ≡ []) × (stacked self.new ≡ [])) (λ x. stacked self.old ≡ x ∷ stacked self.new) }
     {
         let top = self.top()?;
@@ -88,8 +86,7 @@ impl<'a, T: Blank> Stack<'a, T> {
 
     // Takes all elements off, and leaves the whole room blank.
     pub fn clear(&mut self)
-        ensures same_room { self.new.room.ghost_name ≡ self.old.room.ghost_name }
-        ensures places { places self.new ≡ places self.old }
+        ensures room { SameRoom self.old self.new }
         ensures empty { stacked self.new ≡ [] }
         ensures blank { self.new.room.now ≡ replicate (places self.old) T.blank }
     {
