@@ -12,7 +12,7 @@ use Rattle.language.proofs.Moves.Theorem.{moves_theorem}
 use Rattle.language.proofs.Moves.Steps.{steps_append}
 use Rattle.rulebook.specs.declared.faults.Fault.{Fault}
 use Rattle.rulebook.specs.declared.faults.Fault.TheVariants.{MoveRefused, StacksLeft, StackFull}
-use Rattle.reading.specs.Replays.{Spaces, Fits, Leads, Accepted, Refused, start, barred, full, left, ReplayTheorem}
+use Rattle.reading.specs.Replays.{Rooms, StateFits, Leads, ReplayAccepted, ReplayRefused, start, barred, full, left, ReplayTheorem}
 
 -- the first of the first moves
 front_of : (j k : ℕ) (ns : List ℕ) → j ≤ k → take j (take k ns) ≡ take j ns
@@ -36,19 +36,19 @@ front_leads g o p q s h = by (steps g o p) refl
     by none e = absurd (none_on g q s (ap (λ x. steps g x q) (sym e) ∙ (sym (steps_append g o p q) ∙ h)))
     by (some u) e = (u, e)
 
-module _ (g : Grammar) (ws : List Word) (sp : Spaces) (ns : List ℕ) where
+module _ (g : Grammar) (ws : List Word) (room : Rooms) (ns : List ℕ) where
   abbrev to : ℕ → Option State
   to k = steps g (some (initial g ws)) (take k ns)
 
   -- after this many moves, and after all fewer, the machine is in a state that fits
   abbrev Goes : ℕ → Type 0
-  Goes k = (j : ℕ) → j ≤ k → (u : State) × (to j ≡ some u) × Fits sp u
+  Goes k = (j : ℕ) → j ≤ k → (u : State) × (to j ≡ some u) × StateFits room u
 
   -- after one move more it is in none
   abbrev Stops : ℕ → Type 0
-  Stops k = (u : State) → to (k + 1) ≡ some u → Fits sp u → ⊥
+  Stops k = (u : State) → to (k + 1) ≡ some u → StateFits room u → ⊥
 
-  goes : (k : ℕ) (s : State) → Leads g ws sp (take k ns) s → Goes k
+  goes : (k : ℕ) (s : State) → Leads g ws room (take k ns) s → Goes k
   goes k s l j h =
       let inside : take j (take k ns) ≡ take j ns = front_of j k ns h in
       let cut : take j ns ++ drop j (take k ns) ≡ take k ns = ap (λ x. x ++ drop j (take k ns)) (sym inside) ∙ take-append-drop j (take k ns) in
@@ -56,7 +56,7 @@ module _ (g : Grammar) (ws : List Word) (sp : Spaces) (ns : List ℕ) where
       (u.0, u.1, l.fit j u.0 (ap (steps g (some (initial g ws))) inside ∙ u.1))
 
   -- one more move
-  next_to : (k : ℕ) (s : State) → k < length ns → Leads g ws sp (take k ns) s → to (k + 1) ≡ step g s (slice_index ns k)
+  next_to : (k : ℕ) (s : State) → k < length ns → Leads g ws room (take k ns) s → to (k + 1) ≡ step g s (slice_index ns k)
   next_to k s h l =
       ap (λ j. steps g (some (initial g ws)) (take j ns)) (add-one k)
       ∙ (ap (steps g (some (initial g ws))) (take-suc ns k 0 h)
@@ -72,33 +72,33 @@ module _ (g : Grammar) (ws : List Word) (sp : Spaces) (ns : List ℕ) where
   barred_stops : (k : ℕ) → to (k + 1) ≡ none → Stops k
   barred_stops k e u h f = let z : none ≡ some u = sym e ∙ h in let y : ◌≡◌ {A = ℕ} 0 1 = cc in omega arith
 
-  full_stops : (k : ℕ) (t : State) → to (k + 1) ≡ some t → (Fits sp t → ⊥) → Stops k
-  full_stops k t e n u h f = let z : some u ≡ some t = sym h ∙ e in let same : u ≡ t = cc in n (subst (Fits sp) same f)
+  full_stops : (k : ℕ) (t : State) → to (k + 1) ≡ some t → (StateFits room t → ⊥) → Stops k
+  full_stops k t e n u h f = let z : some u ≡ some t = sym h ∙ e in let same : u ≡ t = cc in n (subst (StateFits room) same f)
 
   -- what a refusal says: of the start symbol, of a move, or of the end
   data Said : Fault → Type 0 where
-    no_start : (Fits sp (initial g ws) → ⊥) → Said (StackFull 0)
+    no_start : (StateFits room (initial g ws) → ⊥) → Said (StackFull 0)
     no_move : (k : ℕ) → k < length ns → Goes k → to (k + 1) ≡ none → Said (MoveRefused (k + 1))
-    no_space : (k : ℕ) (t : State) → k < length ns → Goes k → to (k + 1) ≡ some t → (Fits sp t → ⊥) → Said (StackFull (k + 1))
+    no_space : (k : ℕ) (t : State) → k < length ns → Goes k → to (k + 1) ≡ some t → (StateFits room t → ⊥) → Said (StackFull (k + 1))
     no_end : (s : State) → Goes (length ns) → steps g (some (initial g ws)) ns ≡ some s → (s ≡ stacks [] [] [] → ⊥) → Said (StacksLeft (length ns))
 
-  goes_all : (s : State) → Leads g ws sp ns s → Goes (length ns)
-  goes_all s l = goes (length ns) s (subst (λ ms. Leads g ws sp ms s) (sym (take_all (length ns) ns (omega arith))) l)
+  goes_all : (s : State) → Leads g ws room ns s → Goes (length ns)
+  goes_all s l = goes (length ns) s (subst (λ ms. Leads g ws room ms s) (sym (take_all (length ns) ns (omega arith))) l)
 
-  said : (f : Fault) → Refused g ws sp ns f → Said f
+  said : (f : Fault) → ReplayRefused g ws room ns f → Said f
   said f (start n) = no_start n
   said f (barred k s h l e) = no_move k h (goes k s l) (next_to k s h l ∙ e)
   said f (full k s t h l e n) = no_space k t h (goes k s l) (next_to k s h l ∙ e) n
   said f (left s l n) = no_end s (goes_all s l) l.to n
 
-  started : (k : ℕ) → Goes k → (Fits sp (initial g ws) → ⊥) → ⊥
-  started k gk n = let u = gk 0 (omega arith) in let same : some (initial g ws) ≡ some u.0 = u.1 in let s : u.0 ≡ initial g ws = cc in n (subst (Fits sp) s u.2)
+  started : (k : ℕ) → Goes k → (StateFits room (initial g ws) → ⊥) → ⊥
+  started k gk n = let u = gk 0 (omega arith) in let same : some (initial g ws) ≡ some u.0 = u.1 in let s : u.0 ≡ initial g ws = cc in n (subst (StateFits room) s u.2)
 
   -- none stops before the end where all goes
   ended : {A : Type 0} (k : ℕ) → k < length ns → Stops k → Goes (length ns) → A
   ended k h s a = absurd (omega (arith, apart_at k (length ns) s a))
 
-  both : {A : Type 0} (k j : ℕ) (t : State) → Goes k → Goes j → to (k + 1) ≡ none → to (j + 1) ≡ some t → (Fits sp t → ⊥) → A
+  both : {A : Type 0} (k j : ℕ) (t : State) → Goes k → Goes j → to (k + 1) ≡ none → to (j + 1) ≡ some t → (StateFits room t → ⊥) → A
   both k j t gk gj e d n =
       let same = same_at k j gk (barred_stops k e) gj (full_stops j t d n) in
       let z : none ≡ some t = sym e ∙ (ap (λ x. to (x + 1)) same ∙ d) in
@@ -124,7 +124,7 @@ module _ (g : Grammar) (ws : List Word) (sp : Spaces) (ns : List ℕ) where
   one_said f h (no_end s a e m) (no_end t b d n) = refl
 
   -- and an accepted run does not stop
-  accepted_apart : (f : Fault) → Accepted g ws sp ns → Said f → ⊥
+  accepted_apart : (f : Fault) → ReplayAccepted g ws room ns → Said f → ⊥
   accepted_apart f c s = by f s
     where
       all : Goes (length ns)
@@ -137,9 +137,9 @@ module _ (g : Grammar) (ws : List Word) (sp : Spaces) (ns : List ℕ) where
       by f (no_end s a e n) = let z : some (stacks [] [] []) ≡ some s = sym c.run ∙ e in let same : s ≡ stacks [] [] [] = cc in n same
 
 pub replay_theorem : ReplayTheorem
-replay_theorem m sound ws sp ns = record {
-  one = λ f h p q. one_said m.grammar ws sp ns f h (said m.grammar ws sp ns f p) (said m.grammar ws sp ns h q);
-  apart = λ f c p. accepted_apart m.grammar ws sp ns f c (said m.grammar ws sp ns f p);
+replay_theorem m sound ws room ns = record {
+  one = λ f h p q. one_said m.grammar ws room ns f h (said m.grammar ws room ns f p) (said m.grammar ws room ns h q);
+  apart = λ f c p. accepted_apart m.grammar ws room ns f c (said m.grammar ws room ns f p);
   read = λ c. run_theorem m sound ws ns c.run;
   all = λ t e fit. record { run = subst (Complete m.grammar ws) e (moves_theorem m sound ws t).run; fit = fit };
 }

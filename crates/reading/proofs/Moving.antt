@@ -12,8 +12,8 @@ use Rattle.soundbook.proofs.Plain.{Plain}
 use Rattle.reading.specs.declared.stacks.Blank.{Ghosts}
 use Rattle.reading.specs.declared.stacks.Stack.{Stack}
 use Rattle.reading.specs.Stacks.{stacked}
-use Rattle.reading.specs.Machines.{awaited, rooms, top_agrees, symbol_on_top, Barred, no_room, Begun, NotBegun, second_short, third_short}
-use Rattle.reading.specs.Replays.{Spaces}
+use Rattle.reading.specs.Machines.{awaited, rooms_of, top_agrees, symbol_on_top, Barred, no_room, RuleBegun, RuleShort, second_short, third_short}
+use Rattle.reading.specs.Replays.{Rooms}
 
 -- a number that is no end mark is a symbol
 pub awaited_next : (c : ℕ) → 1 ≤ c → awaited c ≡ next c
@@ -107,13 +107,13 @@ module _ (g : Grammar) (s : State) (r : ℕ) (other : (r ≡ 0 → ⊥) × (r �
   begun_state es bs ls e b l = rw (e, b, l) refl
 
   -- where its symbols and an end mark do not fit, or its left side
-  second_full : (sp : Spaces) (at : ℕ) → true ≡ may_begin g r s → 1 ≤ size g r → sp.second < length s.second + size g r → Barred sp (step g s r) at (StackFull at)
-  second_full sp at h low full =
+  second_full : (room : Rooms) (at : ℕ) → true ≡ may_begin g r s → 1 ≤ size g r → room.second < length s.second + size g r → Barred room (step g s r) at (StackFull at)
+  second_full room at h low full =
       let long = begun_long g r s low in
       no_room (begun g r s) (step_begun h) (λ fits. omega (arith, fits.second, long))
 
-  third_full : (sp : Spaces) (at : ℕ) → true ≡ may_begin g r s → sp.third ≤ length s.third → Barred sp (step g s r) at (StackFull at)
-  third_full sp at h full = no_room (begun g r s) (step_begun h) (λ fits. omega (arith, fits.third))
+  third_full : (room : Rooms) (at : ℕ) → true ≡ may_begin g r s → room.third ≤ length s.third → Barred room (step g s r) at (StackFull at)
+  third_full room at h full = no_room (begun g r s) (step_begun h) (λ fits. omega (arith, fits.third))
 
 -- what the code leaves when it begins a rule, and why it does not
 module _ {b : Ghosts ℕ} (g k : Grammar) (same : k ≡ g) (r at : ℕ) (other : (r ≡ 0 → ⊥) × (r ≡ 129 → ⊥)) (es fs : List Entry)
@@ -121,16 +121,16 @@ module _ {b : Ghosts ℕ} (g k : Grammar) (same : k ≡ g) (r at : ℕ) (other :
   abbrev before : State
   before = stacks es (map awaited (stacked second)) (stacked third)
 
-  pub leads_on : fs ≡ drop 1 es → Begun k r second second' third third' → step g before r ≡ some (stacks fs (map awaited (stacked second')) (stacked third'))
+  pub leads_on : fs ≡ drop 1 es → RuleBegun k r second second' third third' → step g before r ≡ some (stacks fs (map awaited (stacked second')) (stacked third'))
   leads_on e p =
-      let q : Begun g r second second' third third' = subst (λ h. Begun h r second second' third third') same p in
+      let q : RuleBegun g r second second' third third' = subst (λ h. RuleBegun h r second second' third third') same p in
       step_begun g before r other test ∙ ap some (begun_state g before r other _ _ _ e q.awaiting q.waiting)
 
-  pub stops : (f : Fault) → Plain g → (f ≡ StackFull at) × NotBegun k r second third → Barred (rooms second third) (step g before r) at f
-  stops f p (e, n) = subst (Barred (rooms second third) (step g before r) at) (sym e) (short (subst (λ h. NotBegun h r second third) same n))
+  pub stops : (f : Fault) → Plain g → (f ≡ StackFull at) × RuleShort k r second third → Barred (rooms_of second third) (step g before r) at f
+  stops f p (e, n) = subst (Barred (rooms_of second third) (step g before r) at) (sym e) (short (subst (λ h. RuleShort h r second third) same n))
     where
-      short : NotBegun g r second third → Barred (rooms second third) (step g before r) at (StackFull at)
+      short : RuleShort g r second third → Barred (rooms_of second third) (step g before r) at (StackFull at)
       short (second_short h) =
           let low = p.some_symbols r (rule_test g r (and_parts _ _ (sym test)).0) in
-          second_full g before r other (rooms second third) at test low (omega (arith, h, length-map (stacked second) awaited))
-      short (third_short h) = third_full g before r other (rooms second third) at test h
+          second_full g before r other (rooms_of second third) at test low (omega (arith, h, length-map (stacked second) awaited))
+      short (third_short h) = third_full g before r other (rooms_of second third) at test h

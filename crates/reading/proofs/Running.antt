@@ -13,15 +13,15 @@ use Rattle.rulebook.specs.declared.faults.Fault.{Fault}
 use Rattle.rulebook.specs.declared.faults.Fault.TheVariants.{StacksLeft, StackFull}
 use Rattle.reading.specs.declared.stacks.Blank.{Ghosts}
 use Rattle.reading.specs.declared.stacks.Stack.{Stack}
-use Rattle.reading.specs.Machines.{awaited, above, rooms, symbol_on_top, Barred, not_allowed, no_room}
-use Rattle.reading.specs.Replays.{Spaces, Fits, Leads, Accepted, Refused, start, barred, full, left}
+use Rattle.reading.specs.Machines.{awaited, above, rooms_of, symbol_on_top, Barred, not_allowed, no_room}
+use Rattle.reading.specs.Replays.{Rooms, StateFits, Leads, ReplayAccepted, ReplayRefused, start, barred, full, left}
 use Rattle.reading.specs.Stacks.{stacked, places, SameRoom}
 
 -- rooms stay the same from call to call
 pub room_on : {b : Ghosts ℕ} {s t u : Stack ℕ b} → SameRoom s t → SameRoom t u → SameRoom s u
 room_on p q = record { name = q.name ∙ p.name; places = q.places ∙ p.places }
 
-pub same_rooms : {b : Ghosts ℕ} {s t u v : Stack ℕ b} → SameRoom s t → SameRoom u v → rooms t v ≡ rooms s u
+pub same_rooms : {b : Ghosts ℕ} {s t u v : Stack ℕ b} → SameRoom s t → SameRoom u v → rooms_of t v ≡ rooms_of s u
 same_rooms p q = rw (p.places, q.places) refl
 
 -- no more elements stand on a stack than there are places
@@ -29,22 +29,22 @@ stacked_short : {b : Ghosts ℕ} (s : Stack ℕ b) → length (stacked s) ≤ pl
 stacked_short s = omega (arith, length-reverse (take s.len s.room.now), length-take-le s.len s.room.now s.within, s.within)
 
 -- so they fit their rooms
-pub stacks_fit : {b : Ghosts ℕ} (es : List Entry) (second third : Stack ℕ b) → Fits (rooms second third) (stacks es (map awaited (stacked second)) (stacked third))
+pub stacks_fit : {b : Ghosts ℕ} (es : List Entry) (second third : Stack ℕ b) → StateFits (rooms_of second third) (stacks es (map awaited (stacked second)) (stacked third))
 stacks_fit es second third = record {
   second = omega (arith, length-map (stacked second) awaited, stacked_short second);
   third = stacked_short third;
 }
 
-module _ (g : Grammar) (ws : List Word) (sp : Spaces) where
+module _ (g : Grammar) (ws : List Word) (room : Rooms) where
   -- before the first move
-  pub leads_start : (s : State) → s ≡ initial g ws → Fits sp s → Leads g ws sp [] s
-  leads_start s e fits = record { to = ap some (sym e); fit = λ k t h. subst (Fits sp) (e ∙ none_made k t h) fits }
+  pub leads_start : (s : State) → s ≡ initial g ws → StateFits room s → Leads g ws room [] s
+  leads_start s e fits = record { to = ap some (sym e); fit = λ k t h. subst (StateFits room) (e ∙ none_made k t h) fits }
     where
       none_made : (k : ℕ) (t : State) → steps g (some (initial g ws)) (take k []) ≡ some t → initial g ws ≡ t
       none_made k t h = let led : steps g (some (initial g ws)) [] ≡ some t = ap (steps g (some (initial g ws))) (sym (take_all k [] (omega arith))) ∙ h in cc
 
   -- one move more
-  leads_one : (ns : List ℕ) (n : ℕ) (s t : State) → Leads g ws sp ns s → step g s n ≡ some t → Fits sp t → Leads g ws sp (ns ++ (n ∷ [])) t
+  leads_one : (ns : List ℕ) (n : ℕ) (s t : State) → Leads g ws room ns s → step g s n ≡ some t → StateFits room t → Leads g ws room (ns ++ (n ∷ [])) t
   leads_one ns n s t leads e fits = record { to = led; fit = fit }
     where
       led : steps g (some (initial g ws)) (ns ++ (n ∷ [])) ≡ some t
@@ -56,49 +56,49 @@ module _ (g : Grammar) (ws : List Word) (sp : Spaces) where
           let there : some t ≡ some u = sym led ∙ (ap (steps g (some (initial g ws))) (sym whole) ∙ h) in
           cc
 
-      fit : (k : ℕ) (u : State) → steps g (some (initial g ws)) (take k (ns ++ (n ∷ []))) ≡ some u → Fits sp u
+      fit : (k : ℕ) (u : State) → steps g (some (initial g ws)) (take k (ns ++ (n ∷ []))) ≡ some u → StateFits room u
       fit k u h = ⊎_elim
-          (λ l. subst (Fits sp) (all k u h l) fits)
+          (λ l. subst (StateFits room) (all k u h l) fits)
           (λ l. leads.fit k u (ap (steps g (some (initial g ws))) (sym (take-append-le k ns (n ∷ []) l)) ∙ h))
           (cases_lt (length ns) k)
 
-  -- one move more or a refusal, told by another name of the book and of the spaces
-  module _ (k : Grammar) (same : k ≡ g) (sq : Spaces) (alike : sq ≡ sp) (ns : List ℕ) (at : ℕ) (s : State) (leads : Leads g ws sp (take at ns) s) (below : at < length ns) where
-    pub leads_more : (t : State) → step k s (slice_index ns at) ≡ some t → Fits sq t → Leads g ws sp (take (at + 1) ns) t
+  -- one move more or a refusal, told by another name of the book and of the rooms
+  module _ (k : Grammar) (same : k ≡ g) (room' : Rooms) (alike : room' ≡ room) (ns : List ℕ) (at : ℕ) (s : State) (leads : Leads g ws room (take at ns) s) (below : at < length ns) where
+    pub leads_more : (t : State) → step k s (slice_index ns at) ≡ some t → StateFits room' t → Leads g ws room (take (at + 1) ns) t
     leads_more t e fits =
         let n = slice_index ns at in
         let more : take (at + 1) ns ≡ take at ns ++ (n ∷ []) = ap (λ j. take j ns) (add-one at) ∙ take-suc ns at 0 below in
         let to : step g s n ≡ some t = subst (λ h. step h s n ≡ some t) same e in
-        subst (λ ms. Leads g ws sp ms t) (sym more) (leads_one (take at ns) n s t leads to (subst (λ p. Fits p t) alike fits))
+        subst (λ ms. Leads g ws room ms t) (sym more) (leads_one (take at ns) n s t leads to (subst (λ p. StateFits p t) alike fits))
 
-    pub refused_at : (f : Fault) → Barred sq (step k s (slice_index ns at)) (at + 1) f → Refused g ws sp ns f
+    pub refused_at : (f : Fault) → Barred room' (step k s (slice_index ns at)) (at + 1) f → ReplayRefused g ws room ns f
     refused_at f b =
         let n = slice_index ns at in
-        by (step g s n) refl f (subst (λ p. Barred p (step g s n) (at + 1) f) alike (subst (λ h. Barred sq (step h s n) (at + 1) f) same b))
+        by (step g s n) refl f (subst (λ p. Barred p (step g s n) (at + 1) f) alike (subst (λ h. Barred room' (step h s n) (at + 1) f) same b))
       where
-        by : (o : Option State) → step g s (slice_index ns at) ≡ o → (f : Fault) → Barred sp o (at + 1) f → Refused g ws sp ns f
+        by : (o : Option State) → step g s (slice_index ns at) ≡ o → (f : Fault) → Barred room o (at + 1) f → ReplayRefused g ws room ns f
         by o e f (not_allowed no_step) = barred at s below leads (e ∙ no_step)
         by o e f (no_room t to over) = full at s t below leads (e ∙ to) over
 
   -- with a part on the first stack, a symbol is on top of the second
-  pub part_symbol : (ns : List ℕ) (X : ℕ) (d : Maybe ℕ) (us : List Word) (bs : List Awaited) (ls : List ℕ) → Leads g ws sp ns (stacks (above d us) bs ls) → d ≡ Some X
+  pub part_symbol : (ns : List ℕ) (X : ℕ) (d : Maybe ℕ) (us : List Word) (bs : List Awaited) (ls : List ℕ) → Leads g ws room ns (stacks (above d us) bs ls) → d ≡ Some X
       → symbol_on_top bs ≡ true
   part_symbol ns X d us bs ls leads e =
       let u = part_under g ws ns X (map word us) bs ls (leads.to ∙ ap (λ x. some (stacks (above x us) bs ls)) e) in
       subst (λ cs. symbol_on_top cs ≡ true) (sym u.2) refl
 
--- the moves are judged by what they lead to, told by other names of the book, the words and the spaces
-module _ (g k : Grammar) (same : k ≡ g) (ws us : List Word) (read : us ≡ ws) (sp sq : Spaces) (alike : sq ≡ sp) (ns : List ℕ) (s : State)
-    (leads : Leads k us sq ns s) where
-  leads_to : Leads g ws sp ns s
-  leads_to = subst (λ h. Leads h ws sp ns s) same (subst (λ vs. Leads k vs sp ns s) read (subst (λ p. Leads k us p ns s) alike leads))
+-- the moves are judged by what they lead to, told by other names of the book, the words and the rooms
+module _ (g k : Grammar) (same : k ≡ g) (ws us : List Word) (read : us ≡ ws) (room room' : Rooms) (alike : room' ≡ room) (ns : List ℕ) (s : State)
+    (leads : Leads k us room' ns s) where
+  leads_to : Leads g ws room ns s
+  leads_to = subst (λ h. Leads h ws room ns s) same (subst (λ vs. Leads k vs room ns s) read (subst (λ p. Leads k us p ns s) alike leads))
 
-  pub all_empty : s ≡ stacks [] [] [] → Accepted g ws sp ns
+  pub all_empty : s ≡ stacks [] [] [] → ReplayAccepted g ws room ns
   all_empty e = record { run = leads_to.to ∙ ap some e; fit = leads_to.fit }
 
-  pub some_left : (s ≡ stacks [] [] [] → ⊥) → Refused g ws sp ns (StacksLeft (length ns))
+  pub some_left : (s ≡ stacks [] [] [] → ⊥) → ReplayRefused g ws room ns (StacksLeft (length ns))
   some_left n = left s leads_to n
 
 -- or the start symbol does not fit
-pub start_short : (g : Grammar) (ws : List Word) (sp : Spaces) (ns : List ℕ) (f : Fault) → f ≡ StackFull 0 → sp.second ≤ 0 → Refused g ws sp ns f
-start_short g ws sp ns f e h = subst (Refused g ws sp ns) (sym e) (start (λ fits. omega (arith, fits.second)))
+pub start_short : (g : Grammar) (ws : List Word) (room : Rooms) (ns : List ℕ) (f : Fault) → f ≡ StackFull 0 → room.second ≤ 0 → ReplayRefused g ws room ns f
+start_short g ws room ns f e h = subst (ReplayRefused g ws room ns) (sym e) (start (λ fits. omega (arith, fits.second)))

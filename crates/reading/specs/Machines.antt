@@ -11,7 +11,7 @@ use Rattle.wording.specs.Sets.{word_of}
 use Rattle.reading.specs.declared.stacks.Blank.{Ghosts}
 use Rattle.reading.specs.declared.stacks.Stack.{Stack}
 use Rattle.reading.specs.declared.machines.Machine.{Machine}
-use Rattle.reading.specs.Replays.{Spaces, Fits, spaces}
+use Rattle.reading.specs.Replays.{Rooms, StateFits, rooms}
 use Rattle.reading.specs.Stacks.{stacked, places}
 
 -- words as the sets of the keys that they match, by the test that tells each
@@ -40,8 +40,8 @@ abbrev pub state_of : {W : Type 0} {b : Ghosts ℕ} → (W → ℕ → Bool) →
 state_of tells m second third = stacks (first_of tells m) (map awaited (stacked second)) (stacked third)
 
 -- the rooms of the second and third stack
-abbrev pub rooms : {b : Ghosts ℕ} → Stack ℕ b → Stack ℕ b → Spaces
-rooms second third = spaces (places second) (places third)
+abbrev pub rooms_of : {b : Ghosts ℕ} → Stack ℕ b → Stack ℕ b → Rooms
+rooms_of second third = rooms (places second) (places third)
 
 -- the top of the first stack agrees with a symbol
 abbrev pub top_agrees : Grammar → List Entry → ℕ → Bool
@@ -55,16 +55,16 @@ symbol_on_top (end ∷ bs) = false
 symbol_on_top (next B ∷ bs) = true
 
 -- why a move is refused that leads to a state or to none: it is not allowed, or what it pushes does not fit
-pub data Barred (sp : Spaces) (to : Maybe State) (at : ℕ) : Fault → Type 0 where
-  not_allowed : to ≡ none → Barred sp to at (MoveRefused at)
-  no_room : (t : State) → to ≡ some t → (Fits sp t → ⊥) → Barred sp to at (StackFull at)
+pub data Barred (room : Rooms) (to : Maybe State) (at : ℕ) : Fault → Type 0 where
+  not_allowed : to ≡ none → Barred room to at (MoveRefused at)
+  no_room : (t : State) → to ≡ some t → (StateFits room t → ⊥) → Barred room to at (StackFull at)
 
 -- rule r is begun: its symbols but the first are to come, over an end mark, and its left side waits
-pub record Begun {b : Ghosts ℕ} (g : Grammar) (r : ℕ) (second second' third third' : Stack ℕ b) : Type 0 where
+pub record RuleBegun {b : Ghosts ℕ} (g : Grammar) (r : ℕ) (second second' third third' : Stack ℕ b) : Type 0 where
   pub awaiting : map awaited (stacked second') ≡ map next (drop 1 (right g r)) ++ (end ∷ map awaited (stacked second))
   pub waiting : stacked third' ≡ left g r ∷ stacked third
 
 -- there is too little room for that
-pub data NotBegun {b : Ghosts ℕ} (g : Grammar) (r : ℕ) (second third : Stack ℕ b) : Type 0 where
-  second_short : places second < length (stacked second) + size g r → NotBegun g r second third
-  third_short : places third ≤ length (stacked third) → NotBegun g r second third
+pub data RuleShort {b : Ghosts ℕ} (g : Grammar) (r : ℕ) (second third : Stack ℕ b) : Type 0 where
+  second_short : places second < length (stacked second) + size g r → RuleShort g r second third
+  third_short : places third ≤ length (stacked third) → RuleShort g r second third

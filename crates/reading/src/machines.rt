@@ -5,8 +5,8 @@ ghost use Rattle.language.specs.Book.{Numbered, left as left_of, right, size as 
 ghost use Rattle.language.specs.Machine.{initial, is_rule, next, stacks, step};
 ghost use Rattle.rulebook.specs.declared.faults.Fault.TheVariants.{StackFull};
 ghost use Rattle.soundbook.specs.Sounds.{sound_meaning};
-ghost use Rattle.reading.specs.Machines.{awaited, grammar_of, first_of, state_of, rooms, symbol_on_top, told, top_agrees, Barred, Begun, NotBegun};
-ghost use Rattle.reading.specs.Replays.{Leads, Refused, Spaces};
+ghost use Rattle.reading.specs.Machines.{awaited, grammar_of, first_of, state_of, rooms_of, symbol_on_top, told, top_agrees, Barred, RuleBegun, RuleShort};
+ghost use Rattle.reading.specs.Replays.{Leads, ReplayRefused, Rooms};
 ghost use Rattle.reading.specs.Stacks.{places, stacked, SameRoom};
 
 use super::stacks::Stack;
@@ -145,7 +145,7 @@ impl<W: Word> Machine<'_, '_, W> {
         requires { Numbered (grammar_of self.now) rule }
         ensures second { SameRoom second.old second.new }
         ensures third { SameRoom third.old third.new }
-        ensures pushed { MatchResult result (λ _. Begun (grammar_of self.now) rule second.old second.new third.old third.new) (λ f. (f ≡ StackFull at) × NotBegun (grammar_of self.now) rule second.old third.old) }
+        ensures pushed { MatchResult result (λ _. RuleBegun (grammar_of self.now) rule second.old second.new third.old third.new) (λ f. (f ≡ StackFull at) × RuleShort (grammar_of self.now) rule second.old third.old) }
     {
         put(second, END_MARK, at)?;
         self.put_rest(second, rule, at)?;
@@ -164,7 +164,7 @@ impl<W: Word> Machine<'_, '_, W> {
         ensures book { self.new.book ≡ self.old.book }
         ensures second { SameRoom second.old second.new }
         ensures third { SameRoom third.old third.new }
-        ensures moved { let to = step (grammar_of self.old) (state_of W.tells self.old second.old third.old) rule in MatchResult result (λ _. to ≡ some (state_of W.tells self.new second.new third.new)) (Barred (rooms second.old third.old) to at) }
+        ensures moved { let to = step (grammar_of self.old) (state_of W.tells self.old second.old third.old) rule in MatchResult result (λ _. to ≡ some (state_of W.tells self.new second.new third.new)) (Barred (rooms_of second.old third.old) to at) }
     {
         if !self.may_reduce(second, rule) {
             return Err(Fault::MoveRefused { at });
@@ -184,7 +184,7 @@ impl<W: Word> Machine<'_, '_, W> {
         ensures book { self.new.book ≡ self.old.book }
         ensures second { SameRoom second.old second.new }
         ensures third { SameRoom third.old third.new }
-        ensures moved { let to = step (grammar_of self.old) (state_of W.tells self.old second.old third.old) 0 in MatchResult result (λ _. to ≡ some (state_of W.tells self.new second.new third.new)) (Barred (rooms second.old third.old) to at) }
+        ensures moved { let to = step (grammar_of self.old) (state_of W.tells self.old second.old third.old) 0 in MatchResult result (λ _. to ≡ some (state_of W.tells self.new second.new third.new)) (Barred (rooms_of second.old third.old) to at) }
     {
         let (Some(END_MARK), Some(part)) = (second.top(), third.top()) else {
             return Err(Fault::MoveRefused { at });
@@ -199,7 +199,7 @@ impl<W: Word> Machine<'_, '_, W> {
     fn remove(&mut self, second: &mut Stack<u8>, at: usize) -> Result<(), Fault>
         ensures book { self.new.book ≡ self.old.book }
         ensures second { SameRoom second.old second.new }
-        ensures moved { (sp : Spaces) (ls : List ℕ) → let to = step (grammar_of self.old) (stacks (first_of W.tells self.old) (map awaited (stacked second.old)) ls) 129 in MatchResult result (λ _. to ≡ some (stacks (first_of W.tells self.new) (map awaited (stacked second.new)) ls)) (Barred sp to at) }
+        ensures moved { (room : Rooms) (ls : List ℕ) → let to = step (grammar_of self.old) (stacks (first_of W.tells self.old) (map awaited (stacked second.old)) ls) 129 in MatchResult result (λ _. to ≡ some (stacks (first_of W.tells self.new) (map awaited (stacked second.new)) ls)) (Barred room to at) }
     {
         match second.top() {
             Some(symbol @ 1..) if self.agrees(u16::from(symbol)) => {
@@ -223,7 +223,7 @@ impl<W: Word> Machine<'_, '_, W> {
         ensures book { self.new.book ≡ self.old.book }
         ensures second { SameRoom second.old second.new }
         ensures third { SameRoom third.old third.new }
-        ensures moved { let to = step (grammar_of self.old) (state_of W.tells self.old second.old third.old) number in MatchResult result (λ _. to ≡ some (state_of W.tells self.new second.new third.new)) (Barred (rooms second.old third.old) to at) }
+        ensures moved { let to = step (grammar_of self.old) (state_of W.tells self.old second.old third.old) number in MatchResult result (λ _. to ≡ some (state_of W.tells self.new second.new third.new)) (Barred (rooms_of second.old third.old) to at) }
     {
         match number {
             MOVE => self.move_part(second, third, at),
@@ -243,7 +243,7 @@ impl<W: Word> Machine<'_, '_, W> {
         ensures book { self.new.book ≡ self.old.book }
         ensures second { SameRoom second.old second.new }
         ensures third { SameRoom third.old third.new }
-        ensures moved { let g = grammar_of self.old in let ws = told W.tells self.old.unread.now in let sp = rooms second.old third.old in MatchResult result (λ _. Leads g ws sp moves.now (state_of W.tells self.new second.new third.new)) (Refused g ws sp moves.now) }
+        ensures moved { let g = grammar_of self.old in let ws = told W.tells self.old.unread.now in let room = rooms_of second.old third.old in MatchResult result (λ _. Leads g ws room moves.now (state_of W.tells self.new second.new third.new)) (ReplayRefused g ws room moves.now) }
     {
         for (place, number) in moves.iter().enumerate() {
             self.step(second, third, *number, place + 1)?;
