@@ -36,13 +36,6 @@ stacks_fit es second third = record {
 }
 
 module _ (g : Grammar) (ws : List Word) (room : Rooms) where
-  -- before the first move
-  pub leads_start : (s : State) → s ≡ initial g ws → StateFits room s → Leads g ws room [] s
-  leads_start s e fits = record { to = ap some (sym e); fit = λ k t h. subst (StateFits room) (e ∙ none_made k t h) fits }
-    where
-      none_made : (k : ℕ) (t : State) → steps g (some (initial g ws)) (take k []) ≡ some t → initial g ws ≡ t
-      none_made k t h = let led : steps g (some (initial g ws)) [] ≡ some t = ap (steps g (some (initial g ws))) (sym (take_all k [] (omega arith))) ∙ h in cc
-
   -- one move more
   leads_one : (ns : List ℕ) (n : ℕ) (s t : State) → Leads g ws room ns s → step g s n ≡ some t → StateFits room t → Leads g ws room (ns ++ (n ∷ [])) t
   leads_one ns n s t leads e fits = record { to = led; fit = fit }
