@@ -2,6 +2,7 @@ pub mod Allowed
 pub mod Back
 pub mod First
 pub mod Frames
+pub mod Fronts
 pub mod Many
 pub mod Rules
 pub mod Run

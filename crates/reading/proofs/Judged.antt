@@ -1,40 +1,17 @@
 -- Moves are refused for one reason at most, and none are both accepted and refused.
-use Rattle.std.proofs.Common.{◌≡◌, ℕ, add-one, ◌+◌, ◌<◌, ◌≤◌, List, [], ◌∷◌, ◌++◌, length, take, drop, slice_index, refl, sym, ap, ◌∙◌, subst, ⊎_elim, arith}
+use Rattle.std.proofs.Common.{◌≡◌, ℕ, ◌+◌, ◌<◌, ◌≤◌, List, [], length, take, refl, sym, ap, ◌∙◌, subst, ⊎_elim, arith}
 use Rattle.std.proofs.Math.Option.{Option, some, none}
-use Rattle.std.proofs.Math.Seq.{take-suc}
-use Rattle.std.proofs.lemmas.List.{length-take-le, take-append-drop, take-append-le, take_all}
+use Rattle.std.proofs.lemmas.List.{take_all}
 use Rattle.std.proofs.lemmas.Bool.{cases_lt}
 use Rattle.language.specs.Book.{Grammar}
 use Rattle.language.specs.Words.{Word}
-use Rattle.language.specs.Machine.{State, stacks, step, steps, after, initial, Complete}
+use Rattle.language.specs.Machine.{State, stacks, steps, initial, Complete}
 use Rattle.language.proofs.Moves.Back.{run_theorem}
 use Rattle.language.proofs.Moves.Theorem.{moves_theorem}
-use Rattle.language.proofs.Moves.Steps.{steps_append}
+use Rattle.language.proofs.Moves.Fronts.{front_leads, front_of, none_apart, one_more}
 use Rattle.rulebook.specs.declared.faults.Fault.{Fault}
 use Rattle.rulebook.specs.declared.faults.Fault.TheVariants.{MoveRefused, StacksLeft, StackFull}
 use Rattle.reading.specs.Replays.{Rooms, StateFits, Leads, ReplayAccepted, ReplayRefused, start, barred, full, left, ReplayTheorem}
-
--- the first of the first moves
-front_of : (j k : ℕ) (ns : List ℕ) → j ≤ k → take j (take k ns) ≡ take j ns
-front_of j k ns h = ⊎_elim
-    (λ l.
-    let low : j ≤ length (take k ns) = omega (arith, length-take-le k ns (omega arith)) in
-    sym (ap (take j) (sym (take-append-drop k ns)) ∙ take-append-le j (take k ns) (drop k ns) low))
-    (λ l. ap (take j) (take_all k ns l))
-    (cases_lt k (length ns))
-
--- no moves lead on from a refused one
-none_on : (g : Grammar) (ns : List ℕ) (s : State) → steps g none ns ≡ some s → ⊥
-none_on g [] s h = let z : ◌≡◌ {A = ℕ} 0 1 = cc in omega arith
-none_on g (n ∷ ns) s h = none_on g ns s h
-
--- so the first of moves that lead somewhere lead somewhere
-front_leads : (g : Grammar) (o : Option State) (p q : List ℕ) (s : State) → steps g o (p ++ q) ≡ some s → (u : State) × (steps g o p ≡ some u)
-front_leads g o p q s h = by (steps g o p) refl
-  where
-    by : (r : Option State) → steps g o p ≡ r → (u : State) × (steps g o p ≡ some u)
-    by none e = absurd (none_on g q s (ap (λ x. steps g x q) (sym e) ∙ (sym (steps_append g o p q) ∙ h)))
-    by (some u) e = (u, e)
 
 module _ (g : Grammar) (ws : List Word) (room : Rooms) (ns : List ℕ) where
   abbrev to : ℕ → Option State
@@ -50,17 +27,8 @@ module _ (g : Grammar) (ws : List Word) (room : Rooms) (ns : List ℕ) where
 
   goes : (k : ℕ) (s : State) → Leads g ws room (take k ns) s → Goes k
   goes k s l j h =
-      let inside : take j (take k ns) ≡ take j ns = front_of j k ns h in
-      let cut : take j ns ++ drop j (take k ns) ≡ take k ns = ap (λ x. x ++ drop j (take k ns)) (sym inside) ∙ take-append-drop j (take k ns) in
-      let u = front_leads g (some (initial g ws)) (take j ns) (drop j (take k ns)) s (ap (steps g (some (initial g ws))) cut ∙ l.to) in
-      (u.0, u.1, l.fit j u.0 (ap (steps g (some (initial g ws))) inside ∙ u.1))
-
-  -- one more move
-  next_to : (k : ℕ) (s : State) → k < length ns → Leads g ws room (take k ns) s → to (k + 1) ≡ step g s (slice_index ns k)
-  next_to k s h l =
-      ap (λ j. steps g (some (initial g ws)) (take j ns)) (add-one k)
-      ∙ (ap (steps g (some (initial g ws))) (take-suc ns k 0 h)
-      ∙ (steps_append g (some (initial g ws)) (take k ns) (slice_index ns k ∷ []) ∙ ap (λ o. after g o (slice_index ns k)) l.to))
+      let u = front_leads g (some (initial g ws)) j k ns s h l.to in
+      (u.0, u.1, l.fit j u.0 (ap (steps g (some (initial g ws))) (front_of j k ns h) ∙ u.1))
 
   -- so another refusal stops the moves at the same place
   apart_at : (k j : ℕ) → Stops k → Goes j → j < k + 1
@@ -70,7 +38,7 @@ module _ (g : Grammar) (ws : List Word) (room : Rooms) (ns : List ℕ) where
   same_at k j gk sk gj sj = omega (arith, apart_at k j sk gj, apart_at j k sj gk)
 
   barred_stops : (k : ℕ) → to (k + 1) ≡ none → Stops k
-  barred_stops k e u h f = let z : none ≡ some u = sym e ∙ h in let y : ◌≡◌ {A = ℕ} 0 1 = cc in omega arith
+  barred_stops k e u h f = none_apart u (sym e ∙ h)
 
   full_stops : (k : ℕ) (t : State) → to (k + 1) ≡ some t → (StateFits room t → ⊥) → Stops k
   full_stops k t e n u h f = let z : some u ≡ some t = sym h ∙ e in let same : u ≡ t = cc in n (subst (StateFits room) same f)
@@ -87,8 +55,8 @@ module _ (g : Grammar) (ws : List Word) (room : Rooms) (ns : List ℕ) where
 
   said : (f : Fault) → ReplayRefused g ws room ns f → Said f
   said f (start n) = no_start n
-  said f (barred k s h l e) = no_move k h (goes k s l) (next_to k s h l ∙ e)
-  said f (full k s t h l e n) = no_space k t h (goes k s l) (next_to k s h l ∙ e) n
+  said f (barred k s h l e) = no_move k h (goes k s l) (one_more g (some (initial g ws)) k ns s h l.to ∙ e)
+  said f (full k s t h l e n) = no_space k t h (goes k s l) (one_more g (some (initial g ws)) k ns s h l.to ∙ e) n
   said f (left s l n) = no_end s (goes_all s l) l.to n
 
   started : (k : ℕ) → Goes k → (StateFits room (initial g ws) → ⊥) → ⊥
@@ -101,9 +69,7 @@ module _ (g : Grammar) (ws : List Word) (room : Rooms) (ns : List ℕ) where
   both : {A : Type 0} (k j : ℕ) (t : State) → Goes k → Goes j → to (k + 1) ≡ none → to (j + 1) ≡ some t → (StateFits room t → ⊥) → A
   both k j t gk gj e d n =
       let same = same_at k j gk (barred_stops k e) gj (full_stops j t d n) in
-      let z : none ≡ some t = sym e ∙ (ap (λ x. to (x + 1)) same ∙ d) in
-      let y : ◌≡◌ {A = ℕ} 0 1 = cc in
-      absurd (omega arith)
+      absurd (none_apart t (sym e ∙ (ap (λ x. to (x + 1)) same ∙ d)))
 
   one_said : (f h : Fault) → Said f → Said h → f ≡ h
   one_said f h (no_start n) (no_start m) = refl

@@ -1,20 +1,19 @@
 -- Moves one after another, and what refuses them.
-use Rattle.std.proofs.Common.{◌≡◌, ℕ, add-one, ◌+◌, ◌<◌, ◌≤◌, true, List, [], ◌∷◌, ◌++◌, map, length, take, slice_index, Option as Maybe, Some, length-append, refl, sym, ap, ◌∙◌, subst, ⊎_elim, arith}
+use Rattle.std.proofs.Common.{◌≡◌, ℕ, ◌+◌, ◌<◌, ◌≤◌, true, List, [], map, length, take, slice_index, Option as Maybe, Some, refl, sym, ap, ◌∙◌, subst, ⊎_elim, arith}
 use Rattle.std.proofs.Math.Option.{Option, some}
-use Rattle.std.proofs.lemmas.List.{take-append-le, take_all, length-map, length-reverse, length-take-le}
-use Rattle.std.proofs.Math.Seq.{take-suc}
+use Rattle.std.proofs.lemmas.List.{take_all, length-map, length-reverse, length-take-le}
 use Rattle.std.proofs.lemmas.Bool.{cases_lt}
 use Rattle.language.specs.Book.{Grammar}
 use Rattle.language.specs.Words.{Word}
-use Rattle.language.specs.Machine.{Entry, word, Awaited, State, stacks, step, steps, after, initial}
+use Rattle.language.specs.Machine.{Entry, word, Awaited, State, stacks, step, steps, initial}
 use Rattle.language.proofs.Moves.First.{part_under}
-use Rattle.language.proofs.Moves.Steps.{steps_append}
+use Rattle.language.proofs.Moves.Fronts.{front_of, one_more}
 use Rattle.rulebook.specs.declared.faults.Fault.{Fault}
 use Rattle.rulebook.specs.declared.faults.Fault.TheVariants.{StacksLeft, StackFull}
 use Rattle.reading.specs.declared.stacks.Blank.{Ghosts}
 use Rattle.reading.specs.declared.stacks.Stack.{Stack}
 use Rattle.reading.specs.Machines.{awaited, above, rooms_of, symbol_on_top, Barred, not_allowed, no_room}
-use Rattle.reading.specs.Replays.{Rooms, StateFits, Leads, ReplayAccepted, ReplayRefused, start, barred, full, left}
+use Rattle.reading.specs.Replays.{Rooms, rooms, StateFits, Leads, ReplayAccepted, ReplayRefused, start, barred, full, left}
 use Rattle.reading.specs.Stacks.{stacked, places, SameRoom}
 
 -- rooms stay the same from call to call
@@ -23,6 +22,10 @@ room_on p q = record { name = q.name ∙ p.name; places = q.places ∙ p.places 
 
 pub same_rooms : {b : Ghosts ℕ} {s t u v : Stack ℕ b} → SameRoom s t → SameRoom u v → rooms_of t v ≡ rooms_of s u
 same_rooms p q = rw (p.places, q.places) refl
+
+-- the rooms of two stacks by the places that were lent, where the first stack was used meanwhile
+pub lent_rooms : {b : Ghosts ℕ} {s t : Stack ℕ b} {n k : ℕ} (u : Stack ℕ b) → SameRoom s t → places s ≡ n → places u ≡ k → rooms_of t u ≡ rooms n k
+lent_rooms u p e f = rw (p.places, e, f) refl
 
 -- no more elements stand on a stack than there are places
 stacked_short : {b : Ghosts ℕ} (s : Stack ℕ b) → length (stacked s) ≤ places s
@@ -36,33 +39,28 @@ stacks_fit es second third = record {
 }
 
 module _ (g : Grammar) (ws : List Word) (room : Rooms) where
-  -- one move more
-  leads_one : (ns : List ℕ) (n : ℕ) (s t : State) → Leads g ws room ns s → step g s n ≡ some t → StateFits room t → Leads g ws room (ns ++ (n ∷ [])) t
-  leads_one ns n s t leads e fits = record { to = led; fit = fit }
-    where
-      led : steps g (some (initial g ws)) (ns ++ (n ∷ [])) ≡ some t
-      led = steps_append g (some (initial g ws)) ns (n ∷ []) ∙ (ap (λ o. after g o n) leads.to ∙ e)
-
-      all : (k : ℕ) (u : State) → steps g (some (initial g ws)) (take k (ns ++ (n ∷ []))) ≡ some u → length ns < k → t ≡ u
-      all k u h l =
-          let whole : take k (ns ++ (n ∷ [])) ≡ ns ++ (n ∷ []) = take_all k _ (omega (arith, length-append ns (n ∷ []))) in
-          let there : some t ≡ some u = sym led ∙ (ap (steps g (some (initial g ws))) (sym whole) ∙ h) in
-          cc
-
-      fit : (k : ℕ) (u : State) → steps g (some (initial g ws)) (take k (ns ++ (n ∷ []))) ≡ some u → StateFits room u
-      fit k u h = ⊎_elim
-          (λ l. subst (StateFits room) (all k u h l) fits)
-          (λ l. leads.fit k u (ap (steps g (some (initial g ws))) (sym (take-append-le k ns (n ∷ []) l)) ∙ h))
-          (cases_lt (length ns) k)
-
   -- one move more or a refusal, told by another name of the book and of the rooms
   module _ (k : Grammar) (same : k ≡ g) (room' : Rooms) (alike : room' ≡ room) (ns : List ℕ) (at : ℕ) (s : State) (leads : Leads g ws room (take at ns) s) (below : at < length ns) where
     pub leads_more : (t : State) → step k s (slice_index ns at) ≡ some t → StateFits room' t → Leads g ws room (take (at + 1) ns) t
-    leads_more t e fits =
-        let n = slice_index ns at in
-        let more : take (at + 1) ns ≡ take at ns ++ (n ∷ []) = ap (λ j. take j ns) (add-one at) ∙ take-suc ns at 0 below in
-        let to : step g s n ≡ some t = subst (λ h. step h s n ≡ some t) same e in
-        subst (λ ms. Leads g ws room ms t) (sym more) (leads_one (take at ns) n s t leads to (subst (λ p. StateFits p t) alike fits))
+    leads_more t e fits = record { to = led; fit = fit }
+      where
+        led : steps g (some (initial g ws)) (take (at + 1) ns) ≡ some t
+        led = one_more g (some (initial g ws)) at ns s below leads.to ∙ subst (λ h. step h s (slice_index ns at) ≡ some t) same e
+
+        last : (j : ℕ) (u : State) → steps g (some (initial g ws)) (take j (take (at + 1) ns)) ≡ some u → at < j → t ≡ u
+        last j u h l =
+            let all : take j (take (at + 1) ns) ≡ take (at + 1) ns = take_all j _ (omega (arith, length-take-le (at + 1) ns (omega arith))) in
+            let there : some t ≡ some u = sym led ∙ (ap (steps g (some (initial g ws))) (sym all) ∙ h) in
+            cc
+
+        earlier : (j : ℕ) → j ≤ at → take j (take at ns) ≡ take j (take (at + 1) ns)
+        earlier j l = front_of j at ns l ∙ sym (front_of j (at + 1) ns (omega arith))
+
+        fit : (j : ℕ) (u : State) → steps g (some (initial g ws)) (take j (take (at + 1) ns)) ≡ some u → StateFits room u
+        fit j u h = ⊎_elim
+            (λ l. subst (StateFits room) (last j u h l) (subst (λ p. StateFits p t) alike fits))
+            (λ l. leads.fit j u (ap (steps g (some (initial g ws))) (earlier j l) ∙ h))
+            (cases_lt at j)
 
     pub refused_at : (f : Fault) → Barred room' (step k s (slice_index ns at)) (at + 1) f → ReplayRefused g ws room ns f
     refused_at f b =

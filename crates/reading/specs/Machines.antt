@@ -15,8 +15,8 @@ use Rattle.reading.specs.Replays.{Rooms, StateFits, rooms}
 use Rattle.reading.specs.Stacks.{stacked, places}
 
 -- words as the sets of the keys that they match, by the test that tells each
-abbrev pub told : {W : Type 0} → (W → ℕ → Bool) → List W → List Word
-told tells ws = map (λ w. word_of (tells w)) ws
+abbrev pub sets_of : {W : Type 0} → (W → ℕ → Bool) → List W → List Word
+sets_of tells ws = map (λ w. word_of (tells w)) ws
 
 -- what a number on the second stack stands for
 abbrev pub awaited : ℕ → Awaited
@@ -33,7 +33,7 @@ grammar_of m = (sound_meaning m.book.now).grammar
 
 -- the first stack, by the test that tells each word
 abbrev pub first_of : {W : Type 0} → (W → ℕ → Bool) → Machine W → List Entry
-first_of tells m = above m.done (told tells m.unread.now)
+first_of tells m = above m.done (sets_of tells m.unread.now)
 
 -- the state, with the other stacks in their rooms
 abbrev pub state_of : {W : Type 0} {b : Ghosts ℕ} → (W → ℕ → Bool) → Machine W → Stack ℕ b → Stack ℕ b → State

@@ -11,7 +11,7 @@ stacked s = reverse (take s.len s.room.now)
 abbrev pub places : {T : Type 0} {b : Ghosts T} → Stack T b → ℕ
 places s = length s.room.now
 
--- a stack keeps its room
+-- a stack keeps its room: the very slice that was lent, with all its places
 pub record SameRoom {T : Type 0} {b : Ghosts T} (old new : Stack T b) : Type 0 where
   pub name : new.room.ghost_name ≡ old.room.ghost_name
   pub places : places new ≡ places old

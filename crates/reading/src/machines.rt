@@ -5,7 +5,7 @@ ghost use Rattle.language.specs.Book.{Numbered, left as left_of, right, size as 
 ghost use Rattle.language.specs.Machine.{initial, is_rule, next, stacks, step};
 ghost use Rattle.rulebook.specs.declared.faults.Fault.TheVariants.{StackFull};
 ghost use Rattle.soundbook.specs.Sounds.{sound_meaning};
-ghost use Rattle.reading.specs.Machines.{awaited, grammar_of, first_of, state_of, rooms_of, symbol_on_top, told, top_agrees, Barred, RuleBegun, RuleShort};
+ghost use Rattle.reading.specs.Machines.{awaited, grammar_of, first_of, state_of, rooms_of, symbol_on_top, sets_of, top_agrees, Barred, RuleBegun, RuleShort};
 ghost use Rattle.reading.specs.Replays.{Leads, ReplayRefused, Rooms};
 ghost use Rattle.reading.specs.Stacks.{places, stacked, SameRoom};
 
@@ -14,10 +14,10 @@ use rulebook::{Book, Fault, place_of};
 use soundbook::SoundBook;
 use wording::Word;
 
-// The number of the move that takes off an end mark.
+// The number of Move, which takes off an end mark.
 const MOVE: u8 = 0;
 
-// The number of the move that takes off what agrees.
+// The number of Remove, which takes off tops that agree.
 const REMOVE: u8 = 129;
 
 // How an end mark stands on the second stack, among symbols, which count from 1.
@@ -211,7 +211,7 @@ impl<W: Word> Machine<'_, '_, W> {
         }
     }
 
-    // Makes a move by its number: 0 takes off an end mark, 129 takes off what agrees, any other is to be that of a rule.
+    // Makes a move by its number: Move, Remove, or Reduce by the rule of that number.
     pub(super) fn step(
         &mut self,
         second: &mut Stack<u8>,
@@ -239,11 +239,11 @@ impl<W: Word> Machine<'_, '_, W> {
         third: &mut Stack<u8>,
         moves: &[u8],
     ) -> Result<(), Fault>
-        requires { state_of W.tells self.old second.old third.old ≡ initial (grammar_of self.old) (told W.tells self.old.unread.now) }
+        requires { state_of W.tells self.old second.old third.old ≡ initial (grammar_of self.old) (sets_of W.tells self.old.unread.now) }
         ensures book { self.new.book ≡ self.old.book }
         ensures second { SameRoom second.old second.new }
         ensures third { SameRoom third.old third.new }
-        ensures moved { let g = grammar_of self.old in let ws = told W.tells self.old.unread.now in let room = rooms_of second.old third.old in MatchResult result (λ _. Leads g ws room moves.now (state_of W.tells self.new second.new third.new)) (ReplayRefused g ws room moves.now) }
+        ensures moved { let g = grammar_of self.old in let ws = sets_of W.tells self.old.unread.now in let room = rooms_of second.old third.old in MatchResult result (λ _. Leads g ws room moves.now (state_of W.tells self.new second.new third.new)) (ReplayRefused g ws room moves.now) }
     {
         for (place, number) in moves.iter().enumerate() {
             self.step(second, third, *number, place + 1)?;

@@ -1,7 +1,7 @@
 // Replay: whether moves are a complete run of the machine, in rooms of these sizes.
 ghost use Rattle.std.specs.Prelude.{◌≡◌, length, replicate, MatchResult};
 ghost use Rattle.soundbook.specs.Sounds.{sound_meaning};
-ghost use Rattle.reading.specs.Machines.{told};
+ghost use Rattle.reading.specs.Machines.{sets_of};
 ghost use Rattle.reading.specs.Replays.{ReplayAccepted, ReplayRefused, ReplayTheorem, rooms};
 
 use super::machines::Machine;
@@ -21,7 +21,7 @@ pub fn replay<W: Word>(
 ) -> Result<(), Fault>
     ensures second { second.new ≡ replicate (length second.old) 0 }
     ensures third { third.new ≡ replicate (length third.old) 0 }
-    ensures judged { let g = (sound_meaning book.now).grammar in let ws = told W.tells words.now in let room = rooms (length second.old) (length third.old) in MatchResult result (λ _. ReplayAccepted g ws room moves.now) (ReplayRefused g ws room moves.now) }
+    ensures judged { let g = (sound_meaning book.now).grammar in let ws = sets_of W.tells words.now in let room = rooms (length second.old) (length third.old) in MatchResult result (λ _. ReplayAccepted g ws room moves.now) (ReplayRefused g ws room moves.now) }
 {
     let mut second = Stack::over(second);
     let mut third = Stack::over(third);

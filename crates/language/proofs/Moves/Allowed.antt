@@ -1,13 +1,11 @@
 -- Which moves are allowed, told by the tops of the stacks.
-use Rattle.std.proofs.Common.{◌≡◌, ℕ, true, eqb, List, [], ◌∷◌, ◌++◌, map, drop, refl, ap, subst, arith}
+use Rattle.std.proofs.Common.{◌≡◌, ℕ, true, eqb, List, [], ◌∷◌, ◌++◌, map, drop, refl, ap, subst}
 use mathlib.Core.Option.{Option, some, none}
 use Rattle.std.proofs.lemmas.Bool.{cond_both, eqb-true}
 use Rattle.language.specs.Book.{Grammar, Numbered, left, right, symbol}
+use Rattle.language.proofs.Moves.Fronts.{cons_apart, none_on}
 use Rattle.language.proofs.Tests.{rule_test}
 use Rattle.language.specs.Machine.{Entry, Awaited, next, end, State, stacks, is_rule, agrees, reduce, move, remove, step, steps}
-
-cons_apart : {A : Type 0} (x : A) (xs : List A) → x ∷ xs ≡ [] → ⊥
-cons_apart x xs e = let z : ◌≡◌ {A = ℕ} 0 1 = cc in omega arith
 
 -- the tops of the first and second stack are not an entry and a symbol to come
 abbrev pub Blocked : List Entry → List Awaited → Type 0
@@ -41,11 +39,6 @@ module _ (g : Grammar) where
   pub some_second : (es : List Entry) (b : Awaited) (bs : List Awaited) (ls : List ℕ) → Ends (stacks es (b ∷ bs) ls) [] → ⊥
   some_second es b bs ls h = let s : stacks es (b ∷ bs) ls ≡ stacks [] [] [] = cc in cons_apart b bs (ap (λ t. t.second) s)
 
-  -- no moves lead on from a refused move
-  pub refused : (ns : List ℕ) → Empties none ns → ⊥
-  refused [] h = let z : ◌≡◌ {A = ℕ} 0 1 = cc in omega arith
-  refused (n ∷ ns) h = refused ns h
-
   -- a step is a move, a removal or a reduction by a rule, or refused
   pub step_cases : (s : State) (n : ℕ) (P : Option State → Type 0) → (n ≡ 0 → P (move s.first s.second s.third))
       → (n ≡ 129 → P (remove g s.first s.second s.third)) → (Numbered g n → P (reduce g n s.first s.second s.third)) → P none → P (step g s n)
@@ -66,7 +59,7 @@ module _ (g : Grammar) where
       → (n ≡ 0) × Empties (move es bs ls) q
   only_move es bs ls n q a =
       let P : Option State → Type 0 = λ s. Empties s q → (n ≡ 0) × Empties (move es bs ls) q in
-      let none_left : P none = λ h. absurd (refused q h) in
+      let none_left : P none = λ h. absurd (none_on g q _ h) in
       let e = blocked_refused n es bs ls a in
       step_cases (stacks es bs ls) n P (λ z h. (z, h)) (λ z. subst P e.0 none_left) (λ z. subst P e.1 none_left) none_left
 
@@ -77,6 +70,6 @@ module _ (g : Grammar) where
       → Ends (stacks (e ∷ es) (next B ∷ bs) ls) (n ∷ q) → R
   take_cases e es B bs ls n q {R} removed reduced =
       let P : Option State → Type 0 = λ s. Empties s q → R in
-      let none_left : P none = λ h. absurd (refused q h) in
+      let none_left : P none = λ h. absurd (none_on g q _ h) in
       step_cases (stacks (e ∷ es) (next B ∷ bs) ls) n P (λ z. none_left) (λ z. cond_both (agrees g e B) _ _ P (removed z) (λ a. none_left))
       (λ z. cond_both (agrees g e (symbol g n 0)) _ _ P (reduced z) (λ a. none_left)) none_left

@@ -13,7 +13,8 @@ use Rattle.language.specs.Moves.{inner, moves, RunTheorem}
 use Rattle.language.proofs.Fits.{fits_count}
 use Rattle.language.proofs.Chart.Turned.{Tree, leaves, push, push_count}
 use Rattle.language.proofs.Chart.Proper.{Proper, sound_proper}
-use Rattle.language.proofs.Moves.Allowed.{Ends, refused, some_first, some_second, end_blocked, empty_blocked, only_move, take_cases}
+use Rattle.language.proofs.Moves.Fronts.{none_on}
+use Rattle.language.proofs.Moves.Allowed.{Ends, some_first, some_second, end_blocked, empty_blocked, only_move, take_cases}
 use Rattle.language.proofs.Moves.Frames.{tree_moves, behind_later, Frame, awaited, later, lefts, read, made, Before, Found, Partly, word_found, done_found, pushed}
 
 -- the second stack: the symbol to come and what stands below it
@@ -49,7 +50,7 @@ module _ (g : Grammar) (proper : Proper g) (ws : List Word) (ms : List ℕ) wher
   last : (us : List Word) (ns : List ℕ) → Ends g (stacks (map word us) [] []) ns → (us ≡ []) × (ns ≡ [])
   last [] [] h = (refl, refl)
   last (w ∷ us) [] h = absurd (some_first g (word w) (map word us) [] [] h)
-  last us (n ∷ q) h = absurd (refused g q (only_move g (map word us) [] [] n q (empty_blocked (map word us)) h).1)
+  last us (n ∷ q) h = absurd (none_on g q _ (only_move g (map word us) [] [] n q (empty_blocked (map word us)) h).1)
 
   -- a tree of the start part over all words is a reading of them
   whole : (us : List Word) (ns : List ℕ) (t : Tree g g.start) → Before ws (leaves g g.start t) us → ms ≡ tree_moves g g.start t ++ (129 ∷ ns)
@@ -104,7 +105,7 @@ module _ (g : Grammar) (proper : Proper g) (ws : List Word) (ms : List ℕ) wher
   next_word : (ns : List ℕ) → Taking ns → (us : List Word) (fs : List (Frame g)) → Before ws (read g fs) us → ms ≡ made g fs ++ ns
       → Ends g (stacks (map word us) (pending g fs) (lefts g fs)) ns → Result
   next_word [] taking us fs b e h = absurd (some_second g (map word us) (next (awaited g fs)) (later g fs) (lefts g fs) h)
-  next_word (n ∷ q) taking [] fs b e h = absurd (refused g q (only_move g [] (pending g fs) (lefts g fs) n q tt h).1)
+  next_word (n ∷ q) taking [] fs b e h = absurd (none_on g q _ (only_move g [] (pending g fs) (lefts g fs) n q tt h).1)
   next_word (n ∷ q) taking (w ∷ us) fs b e h = taking (word w) us fs (word_found g ws ms w us fs (n ∷ q) b e) h
 
   -- a rule goes on with its next symbol, or is complete

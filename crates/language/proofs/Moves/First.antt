@@ -10,6 +10,7 @@ use Rattle.language.specs.Words.{Word}
 use Rattle.language.specs.Machine.{Entry, word, done, Awaited, next, end, State, stacks, agrees, reduce, move, remove, step, after, steps, initial}
 use Rattle.language.specs.FirstStack.{OnePart, no_part, one_part, FirstStackTheorem}
 use Rattle.language.proofs.Moves.Allowed.{step_cases}
+use Rattle.language.proofs.Moves.Fronts.{cons_apart, none_apart}
 
 -- directly under each end mark stands a symbol to come
 abbrev Marked : List Awaited → Type 0
@@ -30,12 +31,12 @@ marked_under [] m = absurd m
 marked_under (end ∷ bs) m = absurd m
 marked_under (next B ∷ bs) m = m
 
--- of the last words, all but the first are the last but one fewer
-fewer : (k : ℕ) (ws : List Word) (e : Entry) (es : List Entry) → e ∷ es ≡ map word (drop k ws) → es ≡ map word (drop (suc k) ws)
-fewer zero [] e es h = let z : ◌≡◌ {A = ℕ} 0 1 = cc in let no : ⊥ = omega arith in absurd no
-fewer zero (w ∷ ws) e es h = cc
-fewer (suc k) [] e es h = let z : ◌≡◌ {A = ℕ} 0 1 = cc in let no : ⊥ = omega arith in absurd no
-fewer (suc k) (w ∷ ws) e es h = fewer k ws e es h
+-- behind the first of the words from place k on stand those from the place after it on
+behind_first : (k : ℕ) (ws : List Word) (e : Entry) (es : List Entry) → e ∷ es ≡ map word (drop k ws) → es ≡ map word (drop (suc k) ws)
+behind_first zero [] e es h = absurd (cons_apart e es h)
+behind_first zero (w ∷ ws) e es h = cc
+behind_first (suc k) [] e es h = absurd (cons_apart e es h)
+behind_first (suc k) (w ∷ ws) e es h = behind_first k ws e es h
 
 module _ (g : Grammar) (ws : List Word) where
   -- with a part on the first stack, a symbol to come is on top of the second
@@ -48,14 +49,14 @@ module _ (g : Grammar) (ws : List Word) where
   Kept o = (t : State) → o ≡ some t → Orderly t.first t.second
 
   kept_none : Kept none
-  kept_none t e = let z : ◌≡◌ {A = ℕ} 0 1 = cc in let no : ⊥ = omega arith in absurd no
+  kept_none t e = absurd (none_apart t e)
 
   kept_some : (es : List Entry) (bs : List Awaited) (ls : List ℕ) → Orderly es bs → Kept (some (stacks es bs ls))
   kept_some es bs ls o t e = let same : stacks es bs ls ≡ t = cc in subst (λ s. Orderly s.first s.second) same o
 
   -- with the first entry taken off, words are left
   taken_off : (e : Entry) (es : List Entry) (bs cs : List Awaited) → Orderly (e ∷ es) bs → Marked cs → Orderly es cs
-  taken_off e es bs cs (words_top k h m) c = words_top (suc k) (fewer k ws e es h) c
+  taken_off e es bs cs (words_top k h m) c = words_top (suc k) (behind_first k ws e es h) c
   taken_off e es bs cs (part_top X k h m) c = let tail : es ≡ map word (drop k ws) = cc in words_top k tail c
 
   marked_second : (es : List Entry) (bs : List Awaited) → Orderly es bs → Marked bs
@@ -108,7 +109,7 @@ first_stack_theorem g ws ns s h = one_of g ws s.first s.second (orderly g ws ns 
 
 -- a part done is no word
 part_apart : (X : ℕ) (es : List Entry) (us : List Word) → done X ∷ es ≡ map word us → ⊥
-part_apart X es [] h = let z : ◌≡◌ {A = ℕ} 0 1 = cc in omega arith
+part_apart X es [] h = cons_apart (done X) es h
 part_apart X es (w ∷ us) h = let z : ◌≡◌ {A = ℕ} 0 1 = cc in omega arith
 
 -- with a part on top of the first stack, a symbol to come is on top of the second

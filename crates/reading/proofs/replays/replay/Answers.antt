@@ -1,8 +1,7 @@
-use Rattle.std.proofs.Common.{rules, ◌≡◌, length, refl, ap}
+use Rattle.std.proofs.Common.{rules, ap}
 use Rattle.soundbook.specs.Sounds.{sound_meaning}
-use Rattle.reading.specs.Machines.{rooms_of, told}
-use Rattle.reading.specs.Replays.{rooms}
-use Rattle.reading.proofs.Running.{all_empty, some_left, start_short}
+use Rattle.reading.specs.Machines.{sets_of}
+use Rattle.reading.proofs.Running.{all_empty, lent_rooms, some_left, start_short}
 use Rattle.reading.proofs.replays.replay.Goals as goal
 
 pub returns-in_err-start-clause-judged : goal.returns-in_err-start-clause-judged
@@ -10,14 +9,10 @@ returns-in_err-start-clause-judged g c = search (rules, start_short)
 
 pub returns-then-is_empty-clause-judged : goal.returns-then-is_empty-clause-judged
 returns-then-is_empty-clause-judged g c =
-    let alike : rooms_of c.start.new.second c.over-third.result ≡ rooms (length c.args.second.now) (length c.args.third.now) =
-    rw (c.start.ensures.room.places, c.over-second.ensures.places, c.over-third.ensures.places) refl in
-    all_empty _ _ (ap (λ b. (sound_meaning b.now).grammar) c.over-machine.ensures.book) _ _ (ap (λ w. told g.W.Word.tells w.now) c.over-machine.ensures.unread)
-    _ _ alike c.args.moves.now _ c.in_ok-run.ensures.moved (c.is_empty.ensures.0 c.if-is_empty.true)
+    all_empty _ _ (ap (λ b. (sound_meaning b.now).grammar) c.over-machine.ensures.book) _ _ (ap (λ w. sets_of g.W.Word.tells w.now) c.over-machine.ensures.unread)
+    _ _ (lent_rooms c.over-third.result c.start.ensures.room c.over-second.ensures.places c.over-third.ensures.places) c.args.moves.now _ c.in_ok-run.ensures.moved (c.is_empty.ensures.0 c.if-is_empty.true)
 
 pub returns-clause-judged : goal.returns-clause-judged
 returns-clause-judged g c =
-    let alike : rooms_of c.start.new.second c.over-third.result ≡ rooms (length c.args.second.now) (length c.args.third.now) =
-    rw (c.start.ensures.room.places, c.over-second.ensures.places, c.over-third.ensures.places) refl in
-    some_left _ _ (ap (λ b. (sound_meaning b.now).grammar) c.over-machine.ensures.book) _ _ (ap (λ w. told g.W.Word.tells w.now) c.over-machine.ensures.unread)
-    _ _ alike c.args.moves.now _ c.in_ok-run.ensures.moved (λ e. let empty = c.is_empty.ensures.1 e in let other = c.if-is_empty.false in search rules)
+    some_left _ _ (ap (λ b. (sound_meaning b.now).grammar) c.over-machine.ensures.book) _ _ (ap (λ w. sets_of g.W.Word.tells w.now) c.over-machine.ensures.unread)
+    _ _ (lent_rooms c.over-third.result c.start.ensures.room c.over-second.ensures.places c.over-third.ensures.places) c.args.moves.now _ c.in_ok-run.ensures.moved (λ e. let empty = c.is_empty.ensures.1 e in let other = c.if-is_empty.false in search rules)
