@@ -1,7 +1,9 @@
 pub mod Chart
 pub mod Columns
 pub mod Corners
+pub mod Decided
 pub mod Fits
+pub mod Known
 pub mod Masks
 pub mod Members
 pub mod Moves

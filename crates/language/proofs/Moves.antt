@@ -1,5 +1,6 @@
 pub mod Allowed
 pub mod Back
+pub mod Depth
 pub mod First
 pub mod Frames
 pub mod Fronts

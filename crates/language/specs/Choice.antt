@@ -1,6 +1,6 @@
 -- The choice that gives the first reading: part by part the lowest rule, and for its children, from the last leftwards, the
 -- earliest beginning.
-use Rattle.std.specs.Prelude.{◌≡◌, ℕ, ◌+◌, ◌≤◌, T, List, [], ◌∷◌, length, take, drop}
+use Rattle.std.specs.Prelude.{◌≡◌, ℕ, ◌+◌, ◌≤◌, ◌↔◌, T, List, [], ◌∷◌, length, take, drop}
 use Rattle.language.specs.Book.{Grammar, Key, Meaning, left, size, symbol}
 use Rattle.language.specs.Sound.{Sound}
 use Rattle.language.specs.Words.{Word, between}
@@ -31,11 +31,11 @@ Chosen g r (part ks s cs) ws =
     × Lowest g s (drop (length (yield ks)) ws)
     × Chosen g s cs (drop (length (yield ks)) ws)
 
--- in a book that the check accepts, the reading so chosen is the first
+-- in a book that the check accepts, a reading is the first exactly when it is so chosen
 abbrev pub ChoiceTheorem : Type 0
 ChoiceTheorem =
     (m : Meaning) → Sound m → (X : ℕ) (ws : List Word) (t : Reads m.grammar X ws)
-    → Lowest m.grammar t.reading.by ws → Chosen m.grammar t.reading.by t.reading.children ws → Least t
+    → Least t ↔ (Lowest m.grammar t.reading.by ws × Chosen m.grammar t.reading.by t.reading.children ws)
 
 -- The same choice told by the items over the words, for a part that starts after word i.
 
@@ -57,8 +57,9 @@ ChosenHeld g ws r i (part ks s cs) =
     × LowestHeld g ws s (i + length (yield ks)) (i + length (yield (part ks s cs)))
     × ChosenHeld g ws s (i + length (yield ks)) cs
 
--- in a book that the check accepts, where the part may start after word i: the reading so chosen is the first
+-- in a book that the check accepts, where the part may start after word i: a reading is the first exactly when it is so
+-- chosen
 abbrev pub ItemsTheorem : Type 0
 ItemsTheorem =
     (m : Meaning) → Sound m → (ws : List Word) (X i k : ℕ) → Wanted m.grammar ws i X → k ≤ length ws → (t : Reads m.grammar X (between i k ws))
-    → LowestHeld m.grammar ws t.reading.by i k → ChosenHeld m.grammar ws t.reading.by i t.reading.children → Least t
+    → Least t ↔ (LowestHeld m.grammar ws t.reading.by i k × ChosenHeld m.grammar ws t.reading.by i t.reading.children)

@@ -4,6 +4,7 @@ pub mod Choice
 pub mod Closure
 pub mod Columns
 pub mod Corners
+pub mod Depth
 pub mod Drafts
 pub mod FirstStack
 pub mod Machine

@@ -5,6 +5,7 @@
 ghost use Rattle.language.specs.Choice.{ChoiceTheorem, ItemsTheorem};
 ghost use Rattle.language.specs.Columns.{ColumnsTheorem};
 ghost use Rattle.language.specs.Corners.{CornersTheorem};
+ghost use Rattle.language.specs.Depth.{DepthTheorem};
 ghost use Rattle.language.specs.FirstStack.{FirstStackTheorem};
 ghost use Rattle.language.specs.Moves.{MovesTheorem, RunTheorem};
 ghost use Rattle.language.specs.Order.{FirstTheorem};
@@ -16,7 +17,7 @@ pub fn chart_theorem()
     ensures { ChartTheorem }
 {}
 
-// The reading chosen part by part is the first.
+// A reading is the first exactly when it is chosen part by part.
 pub fn choice_theorem()
     ensures { ChoiceTheorem }
 {}
@@ -31,6 +32,11 @@ pub fn corners_theorem()
     ensures { CornersTheorem }
 {}
 
+// Along the moves of a reading of m rules the second stack holds at most 1 + 6m, the third at most m.
+pub fn depth_theorem()
+    ensures { DepthTheorem }
+{}
+
 // At most one part lies above the words that the machine has not yet read.
 pub fn first_stack_theorem()
     ensures { FirstStackTheorem }
@@ -41,7 +47,7 @@ pub fn first_theorem()
     ensures { FirstTheorem }
 {}
 
-// The reading chosen by the items of the chart is the first.
+// A reading is the first exactly when it is chosen by the items of the chart.
 pub fn items_theorem()
     ensures { ItemsTheorem }
 {}

@@ -50,7 +50,7 @@ module _ (m : Meaning) (sound : Sound m) (ws : List Word) (ts : List Item) (Ns :
       let low = lowest_held g ws ts bounds inside spanning r 0 (length ws) q.0 in
       let choice = chosen_held g ws ts bounds inside spanning r 0 ks q.1 in
       record {
-        first = record { reads = t; least = items_theorem m sound ws g.start 0 (length ws) (first g.start self) (le_refl (length ws)) t low choice };
+        first = record { reads = t; least = (items_theorem m sound ws g.start 0 (length ws) (first g.start self) (le_refl (length ws)) t).1 (low, choice) };
         are = refl;
       }
 

@@ -1,24 +1,25 @@
 -- The reading that is chosen part by part is the first.
 use Rattle.std.proofs.Common.{◌≡◌, ℕ, ◌≤◌, ◌⊎◌, List, [], ◌∷◌, length, take, drop, sym, refl, ◌∙◌, ap₂, inl, inr, ⊎_elim, arith}
 use Rattle.std.proofs.lemmas.Bool.{cases_lt}
-use Rattle.language.specs.Book.{Grammar, Key, left, size, symbol}
+use Rattle.language.specs.Book.{Grammar, Key, Meaning, left, size, symbol}
+use Rattle.language.specs.Sound.{Sound}
 use Rattle.language.specs.Words.{Word, Is}
-use Rattle.language.specs.Readings.{Children, none, key, part, yield, count, Fits}
-use Rattle.language.specs.Order.{beginnings, Earlier, Inner, Before}
-use Rattle.language.specs.Choice.{Covers, word, reading, Lowest, Earliest, Chosen, ChoiceTheorem}
+use Rattle.language.specs.Readings.{Children, none, key, part, yield, count, Fits, Reads}
+use Rattle.language.specs.Order.{beginnings, Earlier, Inner, Before, Least}
+use Rattle.language.specs.Choice.{Covers, word, reading, Lowest, Earliest, Chosen}
 use Rattle.language.proofs.Words.{is_front, is_back, is_single}
 use Rattle.language.proofs.Order.Total.{KeysApart, sound_apart, same_symbol, whole_count, not_both}
 
 -- beginnings are earlier, or the same and so is what follows, or that comes first
-abbrev Ahead : List ℕ → List ℕ → Type 0 → Type 0 → Type 0
+abbrev pub Ahead : List ℕ → List ℕ → Type 0 → Type 0 → Type 0
 Ahead xs ys S I = Earlier xs ys ⊎ ((xs ≡ ys) × (S ⊎ I))
 
 -- children of one rule are the same as others, or come first
-abbrev Within : Children → Children → Type 0
+abbrev pub Within : Children → Children → Type 0
 Within ks ls = Ahead (beginnings ks) (beginnings ls) (ks ≡ ls) (Inner ks ls)
 
 -- a reading is the same as another, or comes first
-abbrev Leads : ℕ → Children → ℕ → Children → Type 0
+abbrev pub Leads : ℕ → Children → ℕ → Children → Type 0
 Leads r ks q ls = ((r ≡ q) × (ks ≡ ls)) ⊎ Before r ks q ls
 
 -- no later beginning of the last child, and where it is the same the others are not behind
@@ -94,8 +95,9 @@ module _ (g : Grammar) (apart : KeysApart g) where
       (λ one. chosen_within s cs ds (drop (length (yield ks)) ws) (whole_count g s t cs ds f.4 h.4 one) f.3 (rw one h.3) (is_back (yield ks) (yield cs) ws i) (rw b back) chosen.3)))
 
 -- the reading chosen part by part is the first
-pub choice_theorem : ChoiceTheorem
-choice_theorem m sound X ws t lowest chosen b =
+pub chosen_least : (m : Meaning) → Sound m → (X : ℕ) (ws : List Word) (t : Reads m.grammar X ws)
+    → Lowest m.grammar t.reading.by ws → Chosen m.grammar t.reading.by t.reading.children ws → Least t
+chosen_least m sound X ws t lowest chosen b =
     let apart = sound_apart m sound in
     let one = t.reading in
     let other = b.reading in

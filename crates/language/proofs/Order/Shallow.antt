@@ -1,10 +1,11 @@
 -- The children of a rule over given words, with few rules one below the other, can be listed.
-use Rattle.std.proofs.Common.{◌≡◌, ℕ, zero, suc, ◌+◌, ◌<◌, ◌≤◌, max, Bool, true, false, T, ◌⊎◌, List, [], ◌∷◌, ◌++◌, length, take, drop, sym, refl, ap, ◌∙◌, subst, inl, inr, ⊎_elim, arith, length-append, take-append-drop}
-use native.Mathlib.Decide.{map_dec, dec_le, dec_lt, ℕ_discrete}
+use Rattle.std.proofs.Common.{◌≡◌, ℕ, zero, suc, ◌<◌, ◌≤◌, max, Bool, true, false, T, ◌⊎◌, List, [], ◌∷◌, ◌++◌, length, take, drop, sym, refl, ap, ◌∙◌, subst, inl, inr, ⊎_elim, arith, length-append, take-append-drop}
+use native.Mathlib.Decide.{map_dec, dec_lt, ℕ_discrete}
 use Rattle.language.specs.Book.{Grammar, Key, Numbered, left, size, symbol}
 use Rattle.language.specs.Words.{Word, Begins, Is}
 use Rattle.language.specs.Readings.{Children, none, key, part, yield, count, Fits}
 use Rattle.language.specs.Moves.{below}
+use Rattle.language.proofs.Decided.{both_dec, dec_key, dec_numbered}
 use Rattle.language.proofs.Words.{is_append, is_front, is_back}
 use Rattle.language.proofs.Fits.{fits_numbered}
 use Rattle.language.proofs.Order.Listed.{Listed, Below, Made, listed_none, listed_one, listed_same, listed_or, listed_when, listed_below, listed_made}
@@ -21,11 +22,6 @@ depth_below none = omega arith
 depth_below (key ks c) = depth_below ks
 depth_below (part ks s cs) = omega (arith, depth_below ks, depth_below cs)
 
-both_dec : {X Y : Type 0} → Dec X → Dec Y → Dec (X × Y)
-both_dec (yes x) (yes y) = yes (x, y)
-both_dec (yes x) (no h) = no (λ p. h p.1)
-both_dec (no h) y = no (λ p. h p.0)
-
 dec_T : (b : Bool) → Dec (T b)
 dec_T true = yes tt
 dec_T false = no (λ h. h)
@@ -37,12 +33,6 @@ dec_begins (c ∷ p) (w ∷ ws) = both_dec (dec_T (w c)) (dec_begins p ws)
 
 dec_is : (p : List ℕ) (ws : List Word) → Dec (Is p ws)
 dec_is p ws = map_dec (λ h. record { begins = h.0; long = h.1 }) (λ h. (h.begins, h.long)) (both_dec (dec_begins p ws) (ℕ_discrete (length p) (length ws)))
-
-dec_key : (g : Grammar) (c : ℕ) → Dec (Key g c)
-dec_key g c = map_dec (λ h. record { low = h.0; high = h.1 }) (λ h. (h.low, h.high)) (both_dec (dec_le 33 c) (dec_le c (32 + g.keys)))
-
-dec_numbered : (g : Grammar) (r : ℕ) → Dec (Numbered g r)
-dec_numbered g r = map_dec (λ h. record { low = h.0; high = h.1 }) (λ h. (h.low, h.high)) (both_dec (dec_le 1 r) (dec_le r (length g.rules)))
 
 -- the children stand under the first d symbols of rule r, read the words, and have fewer than n rules one below the other
 pub record Shallow (g : Grammar) (n r d : ℕ) (ws : List Word) (ks : Children) : Type 0 where

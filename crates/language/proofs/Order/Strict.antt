@@ -12,7 +12,8 @@ earlier_trans (x ∷ xs) (y ∷ ys) (z ∷ zs) (inl a) (inr b) = inl (omega (ari
 earlier_trans (x ∷ xs) (y ∷ ys) (z ∷ zs) (inr a) (inl b) = inl (omega (arith, a.0))
 earlier_trans (x ∷ xs) (y ∷ ys) (z ∷ zs) (inr a) (inr b) = inr (a.0 ∙ b.0, earlier_trans xs ys zs a.1 b.1)
 
-earlier_irreflexive : (xs : List ℕ) → Earlier xs xs → ⊥
+-- no beginnings are earlier than themselves
+pub earlier_irreflexive : (xs : List ℕ) → Earlier xs xs → ⊥
 earlier_irreflexive [] a = a
 earlier_irreflexive (x ∷ xs) (inl a) = omega arith
 earlier_irreflexive (x ∷ xs) (inr a) = earlier_irreflexive xs a.1
