@@ -1,5 +1,6 @@
 pub mod Answered
 pub mod Chained
+pub mod Columned
 pub mod Changing
 pub mod Entering
 pub mod Following

@@ -107,7 +107,8 @@ module _ (s : Settled) (b : Board) (kept : Kept s b) (keys : SymbolSet) (is : (c
       (subst (λ (d : State). MatchesLit d.grammar (words d) (matching m)) seen (some_matches s b kept keys is m both common_is x.0 x.1))
 
 module _ (v : State) (seen : Stands v) where
-  held_long : length (words v) ≡ v.held
+  -- as many words are held as are counted
+  pub held_long : length (words v) ≡ v.held
   held_long = length-map (take v.held v.records) (λ (r : WordRecord). has r.keys) ∙ length-take-le v.held v.records (omega (arith, seen.few, seen.many))
 
   -- 100 words are held

@@ -1,6 +1,9 @@
 -- What the calls of a draft answer, and what they leave.
-use Rattle.std.specs.Prelude.{◌≡◌, ℕ, ◌≤◌, [], ◌∷◌, ◌++◌, IsTrue, ◌↔◌}
+use Rattle.std.specs.Prelude.{◌≡◌, ℕ, ◌≤◌, List, [], ◌∷◌, ◌++◌, IsTrue, ◌↔◌}
 use Rattle.language.specs.Words.{Word}
+use Rattle.language.specs.Readings.{Item}
+use Rattle.language.specs.Chart.{HeldItem}
+use Rattle.language.specs.Columns.{Among, Apart}
 use Rattle.language.specs.Drafts.{Lit}
 use Rattle.rulebook.specs.Presses.{PressRefused, PressTaken}
 use Rattle.rulebook.specs.Sets.{has, many}
@@ -38,3 +41,8 @@ pub record NotRubbedOut (old new : State) (f : Fault) : Type 0 where
 pub record LitIs (d : State) (l : LitSet) : Type 0 where
   pub keys : (c : ℕ) → IsTrue (has l.keys c) ↔ Lit d.grammar (words d) c
   pub count : l.count ≡ many l.keys
+
+-- the items over the words held that end at word k, each once
+pub record ColumnIs (d : State) (k : ℕ) (ts : List Item) : Type 0 where
+  pub items : (t : Item) → Among t ts ↔ (HeldItem d.grammar (words d) t × (t.end ≡ k))
+  pub apart : Apart ts

@@ -26,7 +26,7 @@ pub(super) struct Board {
 }
 
 impl Board {
-    ghost use Rattle.std.specs.Prelude.{◌≡◌, ◌<◌, ◌≤◌, MatchResult};
+    ghost use Rattle.std.specs.Prelude.{◌≡◌, ◌-◌, ◌<◌, ◌≤◌, MatchResult, take, drop};
     ghost use Rattle.chart.specs.Marks.{Small};
     ghost use Rattle.chart.specs.Boards.{Cut, Entered, Fresh, NoPlace, Swapped, Unmarked, at_place};
 
@@ -52,6 +52,15 @@ impl Board {
         ensures { result ≡ at_place self.now place }
     {
         self.chart[place]
+    }
+
+    // The items at the places in use from one to before another.
+    pub(super) fn items(&self, from: usize, past: usize) -> &[Item]
+        requires order { from ≤ past }
+        requires inside { past ≤ self.now.top }
+        ensures { result.now ≡ take (past - from) (drop from self.now.chart.items) }
+    {
+        &self.chart[from..past]
     }
 
     // Blanks the places in use from one on: they are in use no longer.

@@ -3,7 +3,7 @@ ghost use Rattle.std.specs.Prelude.{◌≡◌, ◌<◌, map, MatchResult, IsTrue
 ghost use Rattle.language.specs.Chart.{Whole};
 ghost use Rattle.soundbook.specs.Sounds.{sound_meaning};
 ghost use Rattle.wording.specs.Sets.{word_of};
-ghost use Rattle.chart.specs.Calls.{Pressed, NotPressed, RubbedOut, NotRubbedOut, LitIs};
+ghost use Rattle.chart.specs.Calls.{Pressed, NotPressed, RubbedOut, NotRubbedOut, LitIs, ColumnIs};
 ghost use Rattle.chart.specs.Takings.{Taken, NotTaken};
 ghost use Rattle.chart.specs.Records.{matching};
 ghost use Rattle.chart.specs.Items.{told};
@@ -136,6 +136,35 @@ impl<'b> Draft<'b> {
         LitSet {
             keys,
             count: keys.count(),
+        }
+    }
+
+    // The book by whose rules the words are read.
+    pub fn book(&self) -> &'b SoundBook
+        ensures { (sound_meaning result.now).grammar ≡ self.now.grammar }
+    {
+        self.settled.book
+    }
+
+    // How many words are held.
+    pub fn held(&self) -> u16
+        ensures stands { Stands self.now }
+        ensures held { result ≡ self.now.held }
+    {
+        let Draft { settled, .. } = self;
+        settled.held
+    }
+
+    // The items that end at a word, which counts from 1: none where no such word is held.
+    pub fn column(&self, word: u16) -> &[Item]
+        ensures { ColumnIs self.now word (map told result.now) }
+    {
+        match word.checked_sub(1) {
+            Some(place) if place < self.settled.held => {
+                let record = self.settled.records[usize::from(place)];
+                self.board.items(record.from, record.past)
+            }
+            _ => &[],
         }
     }
 
