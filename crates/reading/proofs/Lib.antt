@@ -1,4 +1,12 @@
+pub mod Choosing
+pub mod Chosen
+pub mod Fronts
 pub mod Judged
 pub mod Moving
+pub mod Passing
+pub mod Placing
+pub mod Programmes
 pub mod Running
 pub mod Stacked
+pub mod Standing
+pub mod Walking

@@ -15,10 +15,10 @@ use soundbook::SoundBook;
 use wording::Word;
 
 // The number of Move, which takes off an end mark.
-const MOVE: u8 = 0;
+pub(super) const MOVE: u8 = 0;
 
 // The number of Remove, which takes off tops that agree.
-const REMOVE: u8 = 129;
+pub(super) const REMOVE: u8 = 129;
 
 // How an end mark stands on the second stack, among symbols, which count from 1.
 const END_MARK: u8 = 0;
