@@ -1,0 +1,115 @@
+-- What the law says of a sound book: a lit key is never dark, there is a programme, and presses of its keys are taken.
+use Rattle.std.proofs.Common.{◌≡◌, ℕ, zero, suc, ◌+◌, ◌<◌, ◌≤◌, min, List, [], ◌∷◌, ◌++◌, length, get_or, take, refl, sym, ap, ◌∙◌, subst, ⊎_elim, arith}
+use Rattle.std.proofs.Math.Dec.{eqb_refl}
+use Rattle.std.proofs.Math.Seq.{take-length}
+use Rattle.std.proofs.lemmas.Bool.{cases_lt}
+use Rattle.std.proofs.lemmas.List.{length-map, length-take-le, map_more, take-map}
+use Rattle.language.specs.Book.{Grammar, Meaning}
+use Rattle.language.specs.Sound.{Sound}
+use Rattle.language.specs.Words.{Word, only, Begins}
+use Rattle.language.specs.Readings.{Item, Reading, yield, Programme}
+use Rattle.language.proofs.Chart.Turned.{turned_theorem}
+use Rattle.language.proofs.Words.{begins_take}
+use Rattle.rulebook.specs.declared.faults.Fault.TheVariants.{DraftFull, DarkWord}
+use Rattle.dialogue.specs.declared.calls.Call.{Call}
+use Rattle.dialogue.specs.declared.calls.Call.TheVariants.{Press}
+use Rattle.dialogue.specs.declared.calls.Answer.{Answer}
+use Rattle.dialogue.specs.declared.calls.Answer.TheVariants.{Items, Refused}
+use Rattle.dialogue.specs.Law.{Moment, MayFollow, Matches, Fit, PressLaw, CallLaw, Law, call_at, answer_at}
+use Rattle.dialogue.specs.Theorem.{presses, just, KeyedWhole, LawShows, LawTheorem}
+use Rattle.dialogue.proofs.Answering.{items_taken, not_dark}
+
+not_full : (n k : ℕ) (a : Answer) → a ≡ Refused (DraftFull n) → a ≡ Refused (DarkWord k) → ⊥
+not_full n k a e r = let z : Refused (DraftFull n) ≡ Refused (DarkWord k) = sym e ∙ r in cc
+
+-- a word that matches a key that may follow is not refused as dark
+press_lit : (g : Grammar) (n : ℕ) (old new : Moment) (w : Word) (a : Answer) (held : ℕ) → PressLaw g n old w a new → Matches g old.words w → a ≡ Refused (DarkWord held) → ⊥
+press_lit g n old new w a held law lit dark = ⊎_elim
+    (λ l. not_dark _ held a (law.crowded l lit (λ fit. items_taken _ _ a (law.taken l lit fit).0 dark)) dark)
+    (λ l. not_full _ held a (law.full l) dark)
+    (cases_lt (length old.words) 100)
+
+-- the call of a number, where it is known which
+call_is : (g : Grammar) (n : ℕ) (old new : Moment) (c : Call Word) (w : Word) (a : Answer) → CallLaw g n old c a new → c ≡ Press w → PressLaw g n old w a new
+call_is g n old new c w a law is = subst (λ c. CallLaw g n old c a new) is law
+
+pressed_at : (keys : List ℕ) (k : ℕ) → k < length keys → call_at (presses keys) k ≡ Press (only (get_or keys k 0))
+pressed_at [] k l = absurd (omega arith)
+pressed_at (c ∷ keys) zero l = refl
+pressed_at (c ∷ keys) (suc k) l = pressed_at keys k (omega (arith, l))
+
+-- keys begin with the words that match just their first keys
+begins_just : (keys : List ℕ) → Begins keys (just keys)
+begins_just [] = tt
+begins_just (c ∷ keys) = (eqb_refl c, begins_just keys)
+
+begins_first : (keys : List ℕ) (n : ℕ) → Begins keys (just (take n keys))
+begins_first keys n = subst (Begins keys) (take-map only n keys) (begins_take keys (just keys) n (begins_just keys))
+
+module _ (m : Meaning) (sound : Sound m) where
+  abbrev g : Grammar
+  g = m.grammar
+
+  some_programme : Reading g g.start
+  some_programme = ⊎_elim
+      (λ key. absurd (omega (arith, key.low, sound.formed.counts.start_part.high, sound.formed.counts.few_parts)))
+      (λ t. t)
+      ((turned_theorem g g.start).0 (sound.productive g.start sound.formed.counts.start_part))
+
+  -- the presses of a programme's keys
+  module _ (lent : List Item) (strip : List ℕ) (answers : List Answer) (end : List Item) (left : List ℕ) (t : Reading g g.start) (few : length (yield t.children) ≤ 100)
+      (room : (k : ℕ) → k ≤ length (yield t.children) → Fit g (min 60000 (length lent)) (just (take k (yield t.children))))
+      (law : Law g lent strip (presses (yield t.children)) answers end left) where
+    abbrev keys : List ℕ
+    keys = yield t.children
+
+    abbrev at_key : ℕ → ℕ
+    at_key k = get_or keys k 0
+
+    further : (k : ℕ) → k < length keys → just (take (k + 1) keys) ≡ just (take k keys) ++ (only (at_key k) ∷ [])
+    further k l = map_more only keys k 0 l
+
+    -- with its first keys pressed, the next is lit, and it is taken
+    module _ (k : ℕ) (l : k < length keys) (held : (law.moment k).words ≡ just (take k keys)) where
+      behind : just (take (k + 1) keys) ≡ (law.moment k).words ++ (only (at_key k) ∷ [])
+      behind = further k l ∙ ap (λ ws. ws ++ (only (at_key k) ∷ [])) (sym held)
+
+      lit_next : MayFollow g (law.moment k).words (at_key k)
+      lit_next = record { reading = t; begins = subst (Begins keys) behind (begins_first keys (k + 1)) }
+
+      pressed_next : PressLaw g (min 60000 (length lent)) (law.moment k) (only (at_key k)) (answer_at answers k) (law.moment (suc k))
+      pressed_next = call_is g (min 60000 (length lent)) (law.moment k) (law.moment (suc k)) (call_at (presses keys) k) (only (at_key k)) (answer_at answers k) (law.call k (omega (arith, l, length-map keys (λ c. Press (only c))))) (pressed_at keys k l)
+
+      taken_next : (answer_at answers k ≡ Items (law.moment (suc k)).used) × ((law.moment (suc k)).words ≡ (law.moment k).words ++ (only (at_key k) ∷ []))
+      taken_next = pressed_next.taken
+          (omega (arith, l, few, ap length held, length-map (take k keys) only, length-take-le k keys (omega (arith, l))))
+          (record { key = at_key k; follows = lit_next; matches = eqb_refl (at_key k) })
+          (subst (Fit g (min 60000 (length lent))) behind (room (k + 1) (omega (arith, l))))
+
+    held_after : (k : ℕ) → k ≤ length keys → (law.moment k).words ≡ just (take k keys)
+    held_after zero l = law.first.0
+    held_after (suc k) l =
+        let h : k < length keys = omega (arith, l) in
+        let before = held_after k (omega (arith, l)) in
+        let next : k + 1 ≡ suc k = omega arith in
+        (taken_next k h before).1 ∙ (sym (behind k h before) ∙ ap (λ n. just (take n keys)) next)
+
+    pub keyed_whole : KeyedWhole g keys answers law.moment
+    keyed_whole = record {
+      lit = λ k l. lit_next k l (held_after k (omega (arith, l)));
+      taken = λ k l. (taken_next k l (held_after k (omega (arith, l)))).0;
+      whole = subst (Programme g) (sym (held_after (length keys) (omega arith) ∙ ap just (take-length keys))) (record { reading = t; is = record { begins = begins_just keys; long = sym (length-map keys only) } });
+    }
+
+  law_shows : LawShows g
+  law_shows = record {
+    never_dark = λ lent strip calls answers places left law k w c held l is follows matches dark.
+        press_lit g (min 60000 (length lent)) (law.moment k) (law.moment (suc k)) w (answer_at answers k) held
+        (call_is g (min 60000 (length lent)) (law.moment k) (law.moment (suc k)) (call_at calls k) w (answer_at answers k) (law.call k l) is)
+        (record { key = c; follows = follows; matches = matches }) dark;
+    some = some_programme;
+    whole = λ lent strip answers places left t few room law. keyed_whole lent strip answers places left t few room law;
+  }
+
+pub law_theorem : LawTheorem
+law_theorem m sound = law_shows m sound

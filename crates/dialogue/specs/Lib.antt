@@ -1,0 +1,4 @@
+pub mod Calls
+pub mod Chain
+pub mod Law
+pub mod Theorem
