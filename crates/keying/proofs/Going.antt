@@ -1,142 +1,196 @@
--- A programme is keyed in: what holds after some of its words, and what a further word adds.
-use Rattle.std.proofs.Common.{◌≡◌, ℕ, ◌+◌, ◌<◌, min, List, [], ◌∷◌, ◌++◌, map, length, get_or, take, drop, Some, None, Option, Result, Ok, Err, String, string_bytes, refl, sym, ap, ◌∙◌, subst, inl, inr, arith, length-append, length-take, ◌↔◌}
-use Rattle.std.proofs.Math.ListN.{drop_of_length-le}
-use Rattle.std.proofs.lemmas.List.{drop_more, length-map, length-take-le, map_more}
+-- A programme is keyed in: what is known after some of its words, and what the answers of a further word add.
+use Rattle.std.proofs.Common.{◌≡◌, ℕ, false, suc, ◌+◌, ◌*◌, ◌<◌, ◌≤◌, min, List, [], ◌∷◌, ◌++◌, map, length, get_or, take, drop, Option, Result, Ok, Err, String, string_bytes, refl, sym, ap, ◌∙◌, subst, inl, inr, arith, length-append}
+use Rattle.std.proofs.lemmas.List.{drop_more, get_or_read_under, length-map, length-take-le, map_more}
 use Rattle.language.specs.Book.{Grammar, Meaning}
 use Rattle.language.specs.Words.{Word}
 use Rattle.language.specs.Readings.{Item}
-use Rattle.language.specs.Chart.{Whole}
 use Rattle.lines.specs.Columns.{told_fault, told_word}
-use Rattle.rulebook.specs.Presses.{PressRefused, PressTaken}
 use Rattle.rulebook.specs.declared.faults.Fault.{Fault}
+use Rattle.rulebook.specs.declared.faults.Fault.TheVariants.{Counts}
+use Rattle.wording.specs.Programmes.{nothing}
 use Rattle.wording.specs.declared.pieces.Placed.{Placed}
-use Rattle.chart.specs.Calls.{NotPressed, LitIs}
-use Rattle.chart.specs.States.{State, Stands, words, in_use, opened}
-use Rattle.chart.specs.declared.drafts.LitSet.{LitSet}
-use Rattle.keying.specs.Keyed.{piece_word, WordLine, Lines, LastLine, AllKeyed, PressedLine, LastSaid}
+use Rattle.dialogue.specs.Law.{Moment, Seen, PressLaw, LitLaw, CallLaw, call_at, answer_at}
+use Rattle.dialogue.specs.declared.calls.Call.{Call}
+use Rattle.dialogue.specs.declared.calls.Call.TheVariants.{Press, Lit}
+use Rattle.dialogue.specs.declared.calls.Answer.{Answer}
+use Rattle.dialogue.specs.declared.calls.Answer.TheVariants.{Items, Keys, Yes, Refused}
+use Rattle.keying.specs.Keyed.{piece_word, WordLine, Taken, NotTaken, Lines, LastLine, AllKeyed, keying, KeyedRun, WordAnswered, WordSaid}
+use Rattle.keying.proofs.Calling.{keying_many, keying_press, keying_lit}
 use Rattle.keying.proofs.Listed.{symbols, symbols_are, symbols_apart, symbols_many}
+use Rattle.keying.proofs.Pressing.{Answered, answered, same_items}
 
--- the first words of a text are held by a draft of 8,000 places, and their lines are said
-pub record Going (m : Meaning) (pieces : List Placed) (taken : ℕ) (d : State) (s : List ℕ) : Type 0 where
-  pub grammar : d.grammar ≡ m.grammar
-  pub budget : d.budget ≡ 8000
-  pub words : words d ≡ map (piece_word m) (take taken pieces)
-  pub lines : Lines m.grammar 8000 (map (piece_word m) (take taken pieces)) s
-
--- the line of a word that is taken, over the words then held
-pub line_of : (d : State) (l : LitSet) (n : ℕ) → Stands d → LitIs d l → n ≡ length (words d) → WordLine d.grammar (words d) (told_word n d.used l.count)
-line_of d l n stands lit many = record {
-  items = in_use d;
-  exact = stands.items;
-  lit = symbols l.keys;
-  keys = λ c. (λ m. (lit.keys c).0 ((symbols_are l.keys c).0 m), λ k. (symbols_are l.keys c).1 ((lit.keys c).1 k));
-  apart = symbols_apart l.keys;
-  said = ap (λ n. told_word n d.used l.count) many ∙ (ap (λ u. told_word (length (words d)) u l.count) used ∙ ap (told_word (length (words d)) (length (in_use d))) (lit.count ∙ sym (symbols_many l.keys)));
+-- the line of the last of the words held, by the answer of lit
+line_of : (g : Grammar) (lent : List Item) (places : ℕ) (m : Moment) (a : Answer) (new : Moment) (n : ℕ) → Seen g lent places m → places ≤ length lent → (law : LitLaw g m a new) → n ≡ length m.words → WordLine g m.words (told_word n m.used law.lit.count)
+line_of g lent places m a new n seen enough law many = record {
+  items = take m.used m.places;
+  over = seen.items;
+  lit = symbols law.lit.keys;
+  keys = λ c. (λ h. (law.exact c).0 ((symbols_are law.lit.keys c).0 h), λ h. (symbols_are law.lit.keys c).1 ((law.exact c).1 h));
+  apart = symbols_apart law.lit.keys;
+  said = ap (λ n. told_word n m.used law.lit.count) many ∙ (ap (λ u. told_word (length m.words) u law.lit.count) used ∙ ap (told_word (length m.words) (length (take m.used m.places))) (law.count ∙ sym (symbols_many law.lit.keys)));
 }
   where
-    used : d.used ≡ length (in_use d)
-    used = sym (simp length-take (omega (arith, stands.fits, stands.budget)))
+    used : m.used ≡ length (take m.used m.places)
+    used = sym (length-take-le m.used m.places (omega (arith, seen.fits, seen.long, enough)))
 
--- a draft just opened holds none of them
-pub going_first : (m : Meaning) (pieces : List Placed) (d : State) (ts : List Item) → d ≡ opened m.grammar ts → length ts ≡ 8000 → (s : List ℕ) → s ≡ [] → Going m pieces 0 d s
-going_first m pieces d ts is many s none =
-    subst (λ s. Going m pieces 0 d s) (sym none)
-    (subst (λ d. Going m pieces 0 d []) (sym is)
-    record { grammar = refl; budget = ap (min 60000) many; words = refl; lines = Lines.none })
+-- the fault of a word that is refused, and whether one is
+abbrev fault_in : {A : Type 0} → Result A Fault → Fault
+fault_in (Ok x) = Counts
+fault_in (Err f) = f
 
--- all words that could be cut are held
-pub going_last : (m : Meaning) (pieces : List Placed) (stop : Option Fault) (d : State) (s end : List ℕ) (taken : ℕ) → Going m pieces taken d s → length pieces ≡ taken → LastSaid d stop end → (t : List ℕ) → s ++ end ≡ t → AllKeyed m pieces stop t
-going_last m pieces stop d s end taken so_far all tells t said = record {
-  taken = taken;
-  few = omega (arith, all);
-  shown = s;
-  lines = so_far.lines;
-  end = end;
-  last = subst (λ ps. LastLine m 8000 held ps stop end) (sym (drop_of_length-le pieces (omega (arith, all)))) (last stop tells);
-  said = sym said;
-}
-  where
-    held : List Word
-    held = map (piece_word m) (take taken pieces)
+abbrev faults : {A : Type 0} → Result A Fault → ℕ
+faults (Ok x) = 0
+faults (Err f) = 1
 
-    whole_as : Whole d.grammar (words d) ↔ Whole m.grammar held
-    whole_as = subst (λ g. Whole d.grammar (words d) ↔ Whole g held) so_far.grammar (subst (λ ws. Whole d.grammar (words d) ↔ Whole d.grammar ws) so_far.words (λ w. w, λ w. w))
-
-    last : (stop : Option Fault) → LastSaid d stop end → LastLine m 8000 held [] stop end
-    last (Some f) is = subst (LastLine m 8000 held [] (Some f)) (sym is) (LastLine.stopped f)
-    last None (inl (w, is)) = subst (LastLine m 8000 held [] None) (sym is) (LastLine.whole (whole_as.0 w))
-    last None (inr (w, is)) = subst (LastLine m 8000 held [] None) (sym is) (LastLine.short (λ h. w (whole_as.1 h)))
-
--- a further piece, as a loop reads it: of a list that is the pieces, with something past its end that does not matter
-module _ (m : Meaning) (pieces read : List Placed) (same : read ≡ pieces) (taken : ℕ) (default : Placed) (inside : taken < length read) where
-  abbrev next_piece : Placed
-  next_piece = get_or read taken default
-
+-- A run, seen after some of its words.
+module _ (m : Meaning) (pieces : List Placed) (answers : List Answer) (run : KeyedRun m (map (piece_word m) pieces) answers) where
   abbrev words_to : ℕ → List Word
   words_to n = map (piece_word m) (take n pieces)
 
-  within : taken < length pieces
-  within = subst (λ ps. taken < length ps) same inside
+  abbrev calls : List (Call Word)
+  calls = keying (map (piece_word m) pieces)
 
-  is_next : get_or pieces taken default ≡ next_piece
-  is_next = ap (λ ps. get_or ps taken default) (sym same)
+  abbrev moment : ℕ → Moment
+  moment k = run.law.moment k
 
-  further : words_to (taken + 1) ≡ words_to taken ++ (piece_word m next_piece ∷ [])
-  further = map_more (piece_word m) pieces taken default within ∙ ap (λ p. words_to taken ++ (piece_word m p ∷ [])) is_next
+  -- the first words are held, and their lines are said
+  pub record Going (taken : ℕ) (s : List ℕ) : Type 0 where
+    pub words : (moment (2 * taken)).words ≡ words_to taken
+    pub strip : (moment (2 * taken)).strip ≡ run.strip
+    pub lines : Lines m.grammar 8000 (words_to taken) s
 
-  behind : drop taken pieces ≡ next_piece ∷ drop (taken + 1) pieces
-  behind = drop_more pieces taken default within ∙ ap (λ p. p ∷ drop (taken + 1) pieces) is_next
+  -- none is at first
+  pub going_first : (s : List ℕ) → s ≡ [] → Going 0 s
+  going_first s none = subst (Going 0) (sym none) (record { words = run.law.first.0; strip = run.law.first.1; lines = Lines.none })
 
-  long : length (words_to taken) ≡ taken
-  long = length-map (take taken pieces) (piece_word m) ∙ length-take-le taken pieces (omega (arith, within))
+  pub many_calls : length calls ≡ 2 * length pieces + 1
+  many_calls = keying_many (piece_word m) pieces
 
-  -- what becomes of its word
-  module _ {A : Type 0} (old new : State) (s t : List ℕ) (so_far : Going m pieces taken old s) (answer : Result (String A) Fault)
-      (pressed : PressedLine old new (piece_word m next_piece) (taken + 1) answer) where
-    held_as : (P : Grammar → ℕ → List Word → Type 0) → P old.grammar old.budget (words old) → P m.grammar 8000 (words_to taken)
-    held_as P p = subst (λ g. P g 8000 (words_to taken)) so_far.grammar (subst (λ n. P old.grammar n (words_to taken)) so_far.budget (subst (P old.grammar old.budget) so_far.words p))
+  budget : min 60000 (length run.lent) ≡ 8000
+  budget = ap (min 60000) run.many
 
-    -- it is taken and its line said
-    pub going_on : (l : String A) → answer ≡ Ok l → s ++ string_bytes l ≡ t → Going m pieces (taken + 1) new t
-    going_on l is said = on (subst (PressedLine old new (piece_word m next_piece) (taken + 1)) is pressed)
+  -- what the law says of a call and its answer, as it was read
+  pub law_of : (k : ℕ) (c : Call Word) (a : Answer) → k < length calls → call_at calls k ≡ c → a ≡ get_or answers k a → CallLaw m.grammar 8000 (moment k) c a (moment (suc k))
+  law_of k c a low is_call read =
+      subst (λ n. CallLaw m.grammar n (moment k) c a (moment (suc k))) budget
+      (subst (λ c. CallLaw m.grammar (min 60000 (length run.lent)) (moment k) c a (moment (suc k))) is_call
+      (subst (λ a. CallLaw m.grammar (min 60000 (length run.lent)) (moment k) (call_at calls k) a (moment (suc k))) is_answer
+      (run.law.call k low)))
+    where
+      is_answer : answer_at answers k ≡ a
+      is_answer = sym (get_or_read_under answers k (length answers) a (Yes false) read (omega (arith, low, run.law.answered)) refl)
+
+  pub seen_at : (k : ℕ) → k ≤ length calls → Seen m.grammar run.lent 8000 (moment k)
+  seen_at k low = subst (λ n. Seen m.grammar run.lent n (moment k)) budget (run.law.seen k low)
+
+  -- a further word, and the answers of its press and of lit
+  module _ (taken : ℕ) (inside : taken < length pieces) (pressed lit : Answer) (is_pressed : pressed ≡ get_or answers (2 * taken) pressed) (is_lit : lit ≡ get_or answers (2 * taken + 1) lit) where
+    abbrev piece : Placed
+    piece = get_or pieces taken nothing
+
+    abbrev word : Word
+    word = piece_word m piece
+
+    abbrev old : Moment
+    old = moment (2 * taken)
+
+    abbrev mid : Moment
+    mid = moment (suc (2 * taken))
+
+    press : PressLaw m.grammar 8000 old word pressed mid
+    press = law_of (2 * taken) (Press word) pressed (omega (arith, inside, many_calls)) (keying_press (piece_word m) pieces taken nothing inside) is_pressed
+
+    lit_law : LitLaw m.grammar mid lit (moment (suc (suc (2 * taken))))
+    lit_law = law_of (suc (2 * taken)) Lit lit (omega (arith, inside, many_calls)) (keying_lit (piece_word m) pieces taken inside) (is_lit ∙ ap (λ k. get_or answers k lit) one_more)
       where
-        on : PressedLine old new (piece_word m next_piece) (taken + 1) (Ok l) → Going m pieces (taken + 1) new t
-        on (stands, (n, kept), (k, lit, told)) = record {
-          grammar = grammar;
-          budget = ap (λ (d : State). d.budget) kept.before ∙ so_far.budget;
-          words = now ∙ sym further;
-          lines =
-              subst (Lines m.grammar 8000 (words_to (taken + 1))) said
-              (subst (λ ws. Lines m.grammar 8000 ws (s ++ string_bytes l)) (sym further)
-              (Lines.more (words_to taken) (piece_word m next_piece) s (string_bytes l) so_far.lines
-              (held_as (λ g n ws. PressTaken g n ws (piece_word m next_piece)) kept.taken)
-              (subst (λ g. WordLine g (words_to taken ++ (piece_word m next_piece ∷ [])) (string_bytes l)) grammar
-              (subst (λ ws. WordLine new.grammar ws (string_bytes l)) now
-              (subst (WordLine new.grammar (words new)) (sym told) (line_of new k (taken + 1) stands lit many))))));
-        }
+        one_more : 2 * taken + 1 ≡ suc (2 * taken)
+        one_more = omega arith
+
+    -- lit changes nothing
+    after : moment (2 * (taken + 1)) ≡ mid
+    after = ap moment two_more ∙ lit_law.same
+      where
+        two_more : 2 * (taken + 1) ≡ suc (suc (2 * taken))
+        two_more = omega arith
+
+    further : words_to (taken + 1) ≡ words_to taken ++ (word ∷ [])
+    further = map_more (piece_word m) pieces taken nothing inside
+
+    long : length (words_to taken) ≡ taken
+    long = length-map (take taken pieces) (piece_word m) ∙ length-take-le taken pieces (omega (arith, inside))
+
+    -- a word that is answered by items is taken
+    held : (k : ℕ) → pressed ≡ Items k → Taken m.grammar 8000 old.words word × (k ≡ mid.used) × (mid.words ≡ old.words ++ (word ∷ []))
+    held k is =
+        let known = press.accepted k is in
+        let then = press.taken known.0 known.1 known.2 in
+        (record { room = known.0; matches = known.1; fits = known.2 }, same_items k mid.used (sym is ∙ then.0), then.1)
+
+    -- what the answers are
+    pub both_answered : WordAnswered pressed lit
+    both_answered = subst (WordAnswered pressed) (sym lit_law.answer) (by (answered m.grammar 8000 old word pressed mid press))
+      where
+        by : Answered m.grammar 8000 old word pressed → WordAnswered pressed (Keys lit_law.lit)
+        by (inl (k, items)) = subst (λ a. WordAnswered a (Keys lit_law.lit)) (sym items) tt
+        by (inr (f, refused, reason)) = subst (λ a. WordAnswered a (Keys lit_law.lit)) (sym refused) tt
+
+    -- behind the lines of the words so far
+    module _ (s : List ℕ) (so_far : Going taken s) where
+      -- a word is taken, and its line said
+      said_held : (k : ℕ) → pressed ≡ Items k → (l : List ℕ) → l ≡ told_word (taken + 1) k lit_law.lit.count → Going (taken + 1) (s ++ l)
+      said_held k is l told = record {
+        words = ap (λ (d : Moment). d.words) after ∙ (now ∙ sym further);
+        strip = ap (λ (d : Moment). d.strip) after ∙ (press.strip ∙ so_far.strip);
+        lines =
+            subst (λ ws. Lines m.grammar 8000 ws (s ++ l)) (sym further)
+            (Lines.more (words_to taken) word s l so_far.lines
+            (subst (λ ws. Taken m.grammar 8000 ws word) so_far.words known.0)
+            (subst (λ ws. WordLine m.grammar ws l) now
+            (subst (WordLine m.grammar mid.words) (sym (told ∙ ap (λ n. told_word (taken + 1) n lit_law.lit.count) known.1))
+            (line_of m.grammar run.lent 8000 mid lit _ (taken + 1) (seen_at (suc (2 * taken)) (omega (arith, inside, many_calls))) (omega (arith, run.many)) lit_law many))));
+      }
+        where
+          known : Taken m.grammar 8000 old.words word × (k ≡ mid.used) × (mid.words ≡ old.words ++ (word ∷ []))
+          known = held k is
+
+          now : mid.words ≡ words_to taken ++ (word ∷ [])
+          now = known.2 ∙ ap (λ ws. ws ++ (word ∷ [])) so_far.words
+
+          many : taken + 1 ≡ length mid.words
+          many = sym (ap length now ∙ (length-append (words_to taken) (word ∷ []) ∙ ap (λ n. n + 1) long))
+
+      -- or it is refused, and that is said
+      said_refused : (stop : Option Fault) (f : Fault) → NotTaken m.grammar 8000 old.words word f → AllKeyed m pieces stop (s ++ told_fault f)
+      said_refused stop f reason = record {
+        taken = taken;
+        few = omega (arith, inside);
+        shown = s;
+        lines = so_far.lines;
+        end = told_fault f;
+        last =
+            subst (λ ps. LastLine m 8000 (words_to taken) ps stop (told_fault f)) (sym (drop_more pieces taken nothing inside))
+            (LastLine.refused piece (drop (taken + 1) pieces) stop f (subst (λ ws. NotTaken m.grammar 8000 ws word f) so_far.words reason));
+        said = refl;
+      }
+
+      -- which of both, by what is said
+      module _ {A : Type 0} (r : Result (String A) Fault) (told : WordSaid (taken + 1) pressed lit r) where
+        at_items : (k : ℕ) → pressed ≡ Items k → WordSaid (taken + 1) (Items k) (Keys lit_law.lit) r
+        at_items k is = subst (λ a. WordSaid (taken + 1) (Items k) a r) lit_law.answer (subst (λ a. WordSaid (taken + 1) a lit r) is told)
+
+        at_fault : (f : Fault) → pressed ≡ Refused f → WordSaid (taken + 1) (Refused f) lit r
+        at_fault f is = subst (λ a. WordSaid (taken + 1) a lit r) is told
+
+        pub going_on : (l : String A) → r ≡ Ok l → (t : List ℕ) → s ++ string_bytes l ≡ t → Going (taken + 1) t
+        going_on l is t said = subst (Going (taken + 1)) said (by (answered m.grammar 8000 old word pressed mid press))
           where
-            now : words new ≡ words_to taken ++ (piece_word m next_piece ∷ [])
-            now = kept.words ∙ ap (λ ws. ws ++ (piece_word m next_piece ∷ [])) so_far.words
+            by : Answered m.grammar 8000 old word pressed → Going (taken + 1) (s ++ string_bytes l)
+            by (inl (k, items)) = said_held k items (string_bytes l) (subst (WordSaid (taken + 1) (Items k) (Keys lit_law.lit)) is (at_items k items))
+            by (inr (f, refused, reason)) = let differ : 0 ≡ 1 = ap faults (sym is ∙ at_fault f refused) in absurd (omega (arith, differ))
 
-            grammar : new.grammar ≡ m.grammar
-            grammar = ap (λ (d : State). d.grammar) kept.before ∙ so_far.grammar
-
-            many : taken + 1 ≡ length (words new)
-            many = sym (ap length now ∙ (length-append (words_to taken) (piece_word m next_piece ∷ []) ∙ ap (λ n. n + 1) long))
-
-    -- or it is refused, and that is said
-    pub going_refused : (stop : Option Fault) (f : Fault) → answer ≡ Err f → s ++ told_fault f ≡ t → AllKeyed m pieces stop t
-    going_refused stop f is said = record {
-      taken = taken;
-      few = omega (arith, within);
-      shown = s;
-      lines = so_far.lines;
-      end = told_fault f;
-      last =
-          subst (λ ps. LastLine m 8000 (words_to taken) ps stop (told_fault f)) (sym behind)
-          (LastLine.refused next_piece (drop (taken + 1) pieces) stop f (held_as (λ g n ws. PressRefused g n ws (piece_word m next_piece) f) refused.refused));
-      said = sym said;
-    }
-      where
-        refused : NotPressed old new (piece_word m next_piece) f
-        refused = subst (PressedLine old new (piece_word m next_piece) (taken + 1)) is pressed
+        pub going_refused : (stop : Option Fault) (f : Fault) → r ≡ Err f → (t : List ℕ) → s ++ told_fault f ≡ t → AllKeyed m pieces stop t
+        going_refused stop f is t said = subst (AllKeyed m pieces stop) said (by (answered m.grammar 8000 old word pressed mid press))
+          where
+            by : Answered m.grammar 8000 old word pressed → AllKeyed m pieces stop (s ++ told_fault f)
+            by (inl (k, items)) = absurd (subst (WordSaid (taken + 1) (Items k) (Keys lit_law.lit)) is (at_items k items))
+            by (inr (h, refused, reason)) = said_refused stop f (subst (NotTaken m.grammar 8000 old.words word) (sym (ap fault_in (sym is ∙ at_fault h refused))) reason)

@@ -1,2 +1,6 @@
+pub mod Calling
+pub mod Ending
 pub mod Going
 pub mod Listed
+pub mod Pressing
+pub mod Running

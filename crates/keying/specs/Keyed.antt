@@ -1,49 +1,67 @@
 -- What is said of a programme that is keyed in.
-use Rattle.std.specs.Prelude.{◌≡◌, ℕ, ◌≤◌, ◌⊎◌, List, [], ◌∷◌, ◌++◌, map, length, take, drop, Option, Some, None, Result, MatchResult, String, string_bytes, codes}
+use Rattle.std.specs.Prelude.{◌≡◌, ℕ, Bool, ◌<◌, ◌≤◌, ◌⊎◌, ◌↔◌, List, [], ◌∷◌, ◌++◌, map, length, take, drop, Option, Some, None, Result, Err, MatchResult, String, string_bytes, codes}
 use Rattle.language.specs.Book.{Grammar, Meaning}
+use Rattle.language.specs.Sound.{Sound}
 use Rattle.language.specs.Words.{Word}
-use Rattle.language.specs.Readings.{Item}
-use Rattle.language.specs.Chart.{Whole}
-use Rattle.language.specs.Columns.{Apart}
-use Rattle.language.specs.Drafts.{Items, LitKeys}
-use Rattle.lines.specs.Columns.{told_fault, told_word}
-use Rattle.rulebook.specs.Presses.{PressRefused, PressTaken}
+use Rattle.language.specs.Readings.{Item, Programme}
+use Rattle.language.specs.Columns.{Among, Apart}
+use Rattle.language.specs.Order.{First}
+use Rattle.lines.specs.Columns.{told_fault, told_word, told_whole}
 use Rattle.rulebook.specs.declared.faults.Fault.{Fault}
+use Rattle.rulebook.specs.declared.faults.Fault.TheVariants.{DraftFull, DarkWord, ChartFull}
+use Rattle.soundbook.specs.Sounds.{sound_meaning}
 use Rattle.booktext.specs.Text.{text_meaning}
 use Rattle.bookreport.specs.Findings.{Accepted, RefusedAlone}
 use Rattle.wording.specs.Matching.{piece_matches}
 use Rattle.wording.specs.Programmes.{CutAs}
 use Rattle.wording.specs.Sets.{word_of}
 use Rattle.wording.specs.declared.pieces.Placed.{Placed}
-use Rattle.chart.specs.Calls.{Pressed, NotPressed, LitIs}
-use Rattle.chart.specs.States.{State, Stands, words}
-use Rattle.chart.specs.declared.drafts.LitSet.{LitSet}
+use Rattle.wording.specs.declared.spelled.Spelled.{Spelled}
+use Rattle.reading.specs.Written.{moves_of}
+use Rattle.dialogue.specs.Law.{MayFollow, Matches, ItemsOver, Fit, Law}
+use Rattle.dialogue.specs.declared.calls.Call.{Call}
+use Rattle.dialogue.specs.declared.calls.Call.TheVariants.{Press, Lit, Reading}
+use Rattle.dialogue.specs.declared.calls.Answer.{Answer}
+use Rattle.dialogue.specs.declared.calls.Answer.TheVariants.{Items, Keys, Moves, Refused}
 
 -- a piece of programme text as a word of a book
 abbrev pub piece_word : Meaning → Placed → Word
 piece_word m p = word_of (piece_matches m p.piece)
 
--- the line of the last of the words: how many they are, how many items there are over them, and how many keys are lit
+-- the line of the last of the words: how many they are, how many items there are over them, and how many keys may follow
 pub record WordLine (g : Grammar) (ws : List Word) (s : List ℕ) : Type 0 where
   pub items : List Item
-  pub exact : Items g ws items
+  pub over : ItemsOver g ws items
   pub lit : List ℕ
-  pub keys : LitKeys g ws lit
+  pub keys : (c : ℕ) → Among c lit ↔ MayFollow g ws c
   pub apart : Apart lit
   pub said : s ≡ told_word (length ws) (length items) (length lit)
+
+-- a word is taken after those held, into a chart of so many places: fewer than 100 are held, it matches a key that may follow,
+-- and the items, this word held too, fit
+pub record Taken (g : Grammar) (places : ℕ) (ws : List Word) (w : Word) : Type 0 where
+  pub room : length ws < 100
+  pub matches : Matches g ws w
+  pub fits : Fit g places (ws ++ (w ∷ []))
+
+-- or it is refused for the first of these that does not hold
+pub data NotTaken (g : Grammar) (places : ℕ) (ws : List Word) (w : Word) : Fault → Type 0 where
+  full : 100 ≤ length ws → NotTaken g places ws w (DraftFull (length ws))
+  dark : length ws < 100 → (Matches g ws w → ⊥) → NotTaken g places ws w (DarkWord (length ws))
+  crowded : length ws < 100 → Matches g ws w → (Fit g places (ws ++ (w ∷ [])) → ⊥) → NotTaken g places ws w (ChartFull (length ws))
 
 -- the lines of words that are taken one after another
 pub data Lines (g : Grammar) (places : ℕ) : List Word → List ℕ → Type 0 where
   none : Lines g places [] []
-  more : (ws : List Word) (w : Word) (s l : List ℕ) → Lines g places ws s → PressTaken g places ws w → WordLine g (ws ++ (w ∷ [])) l → Lines g places (ws ++ (w ∷ [])) (s ++ l)
+  more : (ws : List Word) (w : Word) (s l : List ℕ) → Lines g places ws s → Taken g places ws w → WordLine g (ws ++ (w ∷ [])) l → Lines g places (ws ++ (w ∷ [])) (s ++ l)
 
--- the last line, after the words taken: the next word is refused; or the text is, behind its last word; or the words are whole,
--- or short
+-- the last line, after the words taken: the next word is refused; or the text is, behind its last word; or the words are a
+-- programme, and the line tells how many moves their first reading has; or they are no programme
 pub data LastLine (m : Meaning) (places : ℕ) (ws : List Word) : List Placed → Option Fault → List ℕ → Type 0 where
-  refused : (p : Placed) (ps : List Placed) (stop : Option Fault) (f : Fault) → PressRefused m.grammar places ws (piece_word m p) f → LastLine m places ws (p ∷ ps) stop (told_fault f)
+  refused : (p : Placed) (ps : List Placed) (stop : Option Fault) (f : Fault) → NotTaken m.grammar places ws (piece_word m p) f → LastLine m places ws (p ∷ ps) stop (told_fault f)
   stopped : (f : Fault) → LastLine m places ws [] (Some f) (told_fault f)
-  whole : Whole m.grammar ws → LastLine m places ws [] None (codes "whole\n")
-  short : (Whole m.grammar ws → ⊥) → LastLine m places ws [] None (codes "short\n")
+  whole : (t : First m.grammar m.grammar.start ws) → LastLine m places ws [] None (told_whole (length (moves_of t)))
+  short : (Programme m.grammar ws → ⊥) → LastLine m places ws [] None (codes "short\n")
 
 -- what is said of the pieces of a text: a line for each word from the front that is taken into 8,000 places, and the last line
 pub record AllKeyed (m : Meaning) (pieces : List Placed) (stop : Option Fault) (s : List ℕ) : Type 0 where
@@ -68,14 +86,40 @@ Keyed b t s = ((f : Fault) × RefusedAlone b f × (s ≡ told_fault f)) ⊎ (Acc
 
 -- Of the single steps:
 
--- a word is taken and its line told, or it is refused
-abbrev pub PressedLine : {A : Type 0} → State → State → Word → ℕ → Result (String A) Fault → Type 0
-PressedLine old new w number r =
-    MatchResult r
-    (λ l. Stands new × ((n : ℕ) × Pressed old new w n) × ((k : LitSet) × LitIs new k × (string_bytes l ≡ told_word number new.used k.count)))
-    (NotPressed old new w)
+-- the test that tells the words that are pressed
+abbrev pub spelled_tells : Spelled → ℕ → Bool
+spelled_tells w = piece_matches (sound_meaning w.book.now) w.word.piece
 
--- the last line where no word is left
-abbrev pub LastSaid : State → Option Fault → List ℕ → Type 0
-LastSaid d (Some f) s = s ≡ told_fault f
-LastSaid d None s = (Whole d.grammar (words d) × (s ≡ codes "whole\n")) ⊎ ((Whole d.grammar (words d) → ⊥) × (s ≡ codes "short\n"))
+-- the calls that key in words: a press of each and what is lit then, and in the end the reading
+abbrev pub keying : List Word → List (Call Word)
+keying [] = Reading ∷ []
+keying (w ∷ ws) = Press w ∷ Lit ∷ keying ws
+
+-- these calls were made on a new draft of a sound book, with a chart of 8,000 places and a strip of 12,836, and answered so
+pub record KeyedRun (m : Meaning) (ws : List Word) (answers : List Answer) : Type 0 where
+  pub sound : Sound m
+  pub lent : List Item
+  pub many : length lent ≡ 8000
+  pub strip : List ℕ
+  pub long : length strip ≡ 12836
+  pub places : List Item
+  pub left : List ℕ
+  pub law : Law m.grammar lent strip (keying ws) answers places left
+
+-- what the press of a word and then lit can be answered: how many items there are, and the keys; or the press is refused
+abbrev pub WordAnswered : Answer → Answer → Type 0
+WordAnswered (Items n) (Keys lit) = Unit {0}
+WordAnswered (Refused f) lit = Unit {0}
+WordAnswered pressed lit = ⊥
+
+-- what is said then: the line of the word that is taken, or why it is refused
+abbrev pub WordSaid : {A : Type 0} → ℕ → Answer → Answer → Result (String A) Fault → Type 0
+WordSaid number (Items n) (Keys lit) r = MatchResult r (λ l. string_bytes l ≡ told_word number n lit.count) (λ f. ⊥)
+WordSaid number (Refused f) lit r = r ≡ Err f
+WordSaid number pressed lit r = ⊥
+
+-- the last line where no word is left, by the answer of the reading
+abbrev pub LastSaid : Option Fault → Answer → List ℕ → Type 0
+LastSaid (Some f) reading s = s ≡ told_fault f
+LastSaid None (Moves w) s = s ≡ told_whole w.moves
+LastSaid None reading s = s ≡ codes "short\n"

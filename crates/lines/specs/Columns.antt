@@ -14,3 +14,7 @@ told_fault f = codes "fault" ++ (right_in 4 (number_of f) ++ (right_in 4 (layer_
 -- the line by which an accepted word is told: its number, the items and the lit keys in widths 4, 6 and 4
 abbrev pub told_word : ℕ → ℕ → ℕ → List ℕ
 told_word number items lit = right_in 4 number ++ (right_in 6 items ++ (right_in 4 lit ++ codes "\n"))
+
+-- the line by which a programme is told to be whole: the moves of its first reading in width 6
+abbrev pub told_whole : ℕ → List ℕ
+told_whole moves = codes "whole" ++ (right_in 6 moves ++ codes "\n")

@@ -2,7 +2,7 @@
 #![tactic(auto, using(crate::proofs::Padding::padded_right))]
 
 ghost use Rattle.std.specs.Prelude.{◌≡◌, IfOk, string_bytes};
-ghost use Rattle.lines.specs.Columns.{right_in, told_fault, told_word};
+ghost use Rattle.lines.specs.Columns.{right_in, told_fault, told_word, told_whole};
 
 use rulebook::Fault;
 use std::alloc::{AllocError, Global};
@@ -32,4 +32,11 @@ pub fn word_line(heap: Global, number: usize, items: usize, lit: u32) -> Result<
     ensures { IfOk result (λ s. string_bytes s ≡ told_word number items lit) }
 {
     format!(in heap; "{number:4}{items:6}{lit:4}\n")
+}
+
+// The line by which a programme is told to be whole: how many moves its first reading has, in width 6.
+pub fn whole_line(heap: Global, moves: usize) -> Result<String, AllocError>
+    ensures { IfOk result (λ s. string_bytes s ≡ told_whole moves) }
+{
+    format!(in heap; "whole{moves:6}\n")
 }
