@@ -1,5 +1,6 @@
 #!/usr/bin/env python3
-"""An outside reference for keyin, the draft and replay: it shares no code with the product, and says what they must print.
+"""An outside reference for keyin, the draft, the first reading and replay: it shares no code with the product, and says
+what they must print.
 
     reference.py keys DIR     what crates/keysamples must print of the samples in DIR
     reference.py drafts DIR   what crates/draftsamples must print of the runs in DIR
@@ -178,6 +179,81 @@ class Draft:
         return self.items()
 
 
+class Spans:
+    """Which part reads which span of the words; a set of places between the words is a number, by its bits."""
+
+    def __init__(self, book, words):
+        self.book, self.words = book, words
+        places = range(len(words) + 1)
+        symbols = range(33 + book.key_count)
+        # where a symbol begins that ends at a place, and where the first symbols of a rule end that begin at one
+        self.begins = [[0 for _ in places] for _ in symbols]
+        self.ends = [[[0 if d else 1 << i for i in places] for d in range(len(body) + 1)] for _, _, body in book.rules]
+        for j in places:
+            for i in reversed(range(j)):
+                self.span(i, j)
+
+    def span(self, i, j):
+        """Reads the words from place i to place j, once all shorter spans between them are read."""
+        found = {c for c in self.words[i] if self.book.is_key(c)} if j == i + 1 else set()
+        for rule, (left, _, body) in enumerate(self.book.rules, 1):
+            for d in range(2, len(body) + 1):
+                if self.places(rule, d, i, j):
+                    self.ends[rule - 1][d][i] |= 1 << j
+                    if d == len(body):
+                        found.add(left)
+        for _ in range(self.book.parts):
+            found |= {left for left, _, body in self.book.rules if len(body) == 1 and body[0] in found}
+        for symbol in found:
+            self.begins[symbol][j] |= 1 << i
+        for ends, (_, _, body) in zip(self.ends, self.book.rules):
+            if body[0] in found:
+                ends[1][i] |= 1 << j
+
+    def places(self, rule, d, i, j):
+        """Where symbol d of a rule can begin that ends at j, the symbols before it filling the words from i."""
+        return self.ends[rule - 1][d - 1][i] & self.begins[self.book.rules[rule - 1][2][d - 1]][j]
+
+    def first_rule(self, part, i, j):
+        return next(rule for rule, (left, _, body) in enumerate(self.book.rules, 1)
+                    if left == part and self.ends[rule - 1][len(body)][i] >> j & 1)
+
+    def first_children(self, rule, i, j):
+        """The spans of the children: the last child begins as early as it can, then the one before it, and so leftwards."""
+        spans = []
+        for d in range(len(self.book.rules[rule - 1][2]), 0, -1):
+            places = self.places(rule, d, i, j)
+            k = (places & -places).bit_length() - 1
+            spans.append((k, j))
+            j = k
+        return spans[::-1]
+
+    def first_moves(self):
+        """The moves of the first reading of all words by the start part."""
+        moves, open_ = [], [129, (self.book.start, 0, len(self.words))]
+        while open_:
+            top = open_.pop()
+            if isinstance(top, int):
+                moves.append(top)
+            elif self.book.is_part(top[0]):
+                rule = self.first_rule(*top)
+                row = []
+                for symbol, span in zip(self.book.rules[rule - 1][2], self.first_children(rule, *top[1:])):
+                    row += [(symbol, *span), 129 if row else rule]
+                open_ += reversed(row + [0])
+        return moves
+
+
+def reading(draft, places):
+    """The moves of the first reading of the words of a draft, for a strip of so many places."""
+    if not draft.whole():
+        raise Fault(25, 3, len(draft.words), 0)
+    moves = Spans(draft.book, draft.words).first_moves()
+    if len(moves) > places:
+        raise Fault(26, 3, len(draft.words), 0)
+    return moves
+
+
 def word_of(book, place, run):
     """The keys that a run of bytes matches."""
     name = re.match(rb"[a-z-]", run)
@@ -208,7 +284,7 @@ def keyed(book_text, text):
             said += "%4d%6d%4d\n" % (count, items, len(draft.lit()))
     except Fault as fault:
         return said + fault.line()
-    return said + ("whole\n" if draft.whole() else "short\n")
+    return said + ("whole%6d\n" % len(reading(draft, 12836)) if draft.whole() else "short\n")
 
 
 def state(draft):
@@ -217,17 +293,33 @@ def state(draft):
     return "     %d lit:%s, %s\n" % (len(keys), "".join(" %d" % k for k in keys), end)
 
 
-def run(book_text, text):
-    words = text.split()
+def reading_line(draft):
+    """The first reading on a strip of 40 places; its depth is one more than six for each rule, of 2m + n moves."""
+    try:
+        moves = reading(draft, 40)
+    except Fault as fault:
+        return fault.line()
+    depth = 1 + 3 * (len(moves) - len(draft.words))
+    return "     %d moves, depth %d:%s\n" % (len(moves), depth, "".join(" %d" % n for n in moves))
+
+
+def told(draft, reads):
+    return state(draft) + (reading_line(draft) if reads and draft.whole() else "")
+
+
+def run(book_text, text, number):
+    words, reads = text.split(), number <= 40
     places = int(words[0]) * 100 + int(words[1])
     draft = Draft(Book(book_text), places)
-    said = state(draft)
+    said = told(draft, reads)
     for word in words[2:]:
         try:
             said += "%d items\n" % (draft.press({int(word)}) if word.isdigit() else draft.rub_out())
         except Fault as fault:
             said += fault.line()
-        said += state(draft)
+        said += told(draft, reads)
+    if reads and not draft.whole():
+        said += reading_line(draft)
     items = sorted((k, i, r, d) for k, column in enumerate(draft.columns) for r, d, i in column)
     for k, i, r, d in items[:50]:
         said += "     item %d %d %d %d\n" % (r, d, i, k)
@@ -304,11 +396,15 @@ def replay(book_text, text):
 
 def main():
     way, folder = sys.argv[1:]
-    end, tell = {"keys": (".text", keyed), "drafts": (".steps", run), "replays": (".moves", replay)}[way]
-    for name in sorted(n for n in os.listdir(folder) if n.endswith(end)):
+    end, tell = {
+        "keys": (".text", lambda book, text, _: keyed(book, text)),
+        "drafts": (".steps", run),
+        "replays": (".moves", lambda book, text, _: replay(book, text)),
+    }[way]
+    for number, name in enumerate(sorted(n for n in os.listdir(folder) if n.endswith(end)), 1):
         text = open(os.path.join(folder, name), "rb").read()
         book = open(os.path.join(folder, name.replace(end, ".book")), "rb").read()
-        sys.stdout.write(name + "\n" + tell(book, text))
+        sys.stdout.write(name + "\n" + tell(book, text, number))
 
 
 if __name__ == "__main__":

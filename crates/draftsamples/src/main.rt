@@ -1,12 +1,13 @@
 // draftsamples: what a draft does in each of many sample runs, 001.steps and on, by the rules of 001.book and on. A run
 // names the places of its chart in hundreds and the rest, and then its steps: a key that is pressed, or a name where the
-// last word is rubbed out.
+// last word is rubbed out. The first runs tell the reading of the words held too.
 #![tactic(auto)]
 
 use bookreport::sound_book;
 use chart::{Draft, Item};
 use files::if_present;
 use lines::fault_line;
+use reading::reading;
 use rulebook::Fault;
 use soundbook::SoundBook;
 use std::alloc::{AllocError, Global};
@@ -15,6 +16,12 @@ use wording::{Piece, Placed, Pressed, cut};
 
 // More samples than there ever are.
 const MOST: u16 = 999;
+
+// How many runs tell the reading too.
+const READ: u16 = 40;
+
+// How many bytes the strip has, too few for the moves of some.
+const STRIP: usize = 40;
 
 // What stands in a chart before a draft is made of it.
 const BEFORE: Item = Item {
@@ -60,6 +67,25 @@ fn state_line(heap: Global, draft: &Draft) -> Result<String, AllocError> {
     Ok(said)
 }
 
+// The moves of the first reading of the words held, or why none are written.
+fn reading_line(heap: Global, draft: &Draft) -> Result<String, AllocError> {
+    let mut strip = [0u8; STRIP];
+    match reading(draft, &mut strip) {
+        Ok(written) => {
+            let mut said = format!(in heap;
+                "     {} moves, depth {}:",
+                written.moves, written.depth
+            )?;
+            for number in strip.iter().take(written.moves) {
+                write!(said, " {number}")?;
+            }
+            said.push_str("\n")?;
+            Ok(said)
+        }
+        Err(fault) => fault_line(heap, &fault),
+    }
+}
+
 // The items that stand in a chart, in the order of their numbers, since theirs inside a column is open.
 fn items_lines(heap: Global, chart: &[Item]) -> Result<String, AllocError> {
     let mut items = Vec::new(heap);
@@ -89,15 +115,27 @@ fn figure(run: &[Placed], place: usize) -> u16 {
     }
 }
 
-// Tells of one run over a sound book.
-fn tell(rt: &HostRuntime, book: &SoundBook, run: &[Placed]) -> anyhow::Result<()> {
+// Tells in what state a draft is, and in the first runs the reading of a whole one.
+fn tell_state(rt: &HostRuntime, number: u16, draft: &Draft) -> anyhow::Result<()> {
+    rt.print(state_line(rt.alloc(), draft)?)?;
+    if number <= READ && draft.whole() {
+        rt.print(reading_line(rt.alloc(), draft)?)?;
+    }
+    Ok(())
+}
+
+// Tells of the run of this number over a sound book.
+fn tell(rt: &HostRuntime, number: u16, book: &SoundBook, run: &[Placed]) -> anyhow::Result<()> {
     let places = usize::from(figure(run, 0)) * 100 + usize::from(figure(run, 1));
     let mut draft = Draft::open(book, vec![in rt.alloc(); BEFORE; places]?);
-    rt.print(state_line(rt.alloc(), &draft)?)?;
+    tell_state(rt, number, &draft)?;
     for placed in run.iter().skip(2) {
         let answer = step(&mut draft, &placed.piece);
         rt.print(answer_line(rt.alloc(), answer)?)?;
-        rt.print(state_line(rt.alloc(), &draft)?)?;
+        tell_state(rt, number, &draft)?;
+    }
+    if number <= READ && !draft.whole() {
+        rt.print(reading_line(rt.alloc(), &draft)?)?;
     }
     let chart = draft.into_chart();
     rt.print(items_lines(rt.alloc(), chart.as_slice())?)?;
@@ -117,7 +155,7 @@ fn main(rt: HostRuntime) -> anyhow::Result<()> {
         let run = cut(rt.alloc(), text.as_slice())?;
         let book_name = format!(in rt.alloc(); "{number:03}.book")?;
         match sound_book(fs::read(&rt, book_name.as_str())?.as_slice()) {
-            Ok(book) => tell(&rt, &book, run.words.as_slice())?,
+            Ok(book) => tell(&rt, number, &book, run.words.as_slice())?,
             Err(fault) => rt.print(fault_line(rt.alloc(), &fault)?)?,
         }
     }
