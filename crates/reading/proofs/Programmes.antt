@@ -23,7 +23,7 @@ use Rattle.chart.proofs.Pressing.{held_long}
 use Rattle.rulebook.specs.declared.faults.Fault.TheVariants.{NotWhole, StripShort}
 use Rattle.reading.specs.Choices.{OfSoundBook}
 use Rattle.reading.specs.Walks.{OpenIs, OpensFirst, Owed}
-use Rattle.reading.specs.Written.{moves_of, rules_of, ReadingWritten, ReadingRefused}
+use Rattle.reading.specs.Written.{moves_of, rules_of, inner_of, ReadingWritten, ReadingRefused, Rooted}
 use Rattle.reading.specs.declared.walks.Open.{Open}
 
 -- what a sound book's grammar has for its programmes
@@ -44,70 +44,25 @@ programmes g ws (book, same) =
       deep = depth_theorem m sound ws;
     })
 
-module _ (g : Grammar) (ws : List Word) (p : Programmes g ws) where
-  -- the moves of a first reading but for the last two
-  abbrev pub inner_of : First g g.start ws → List ℕ
-  inner_of t = inner t.reads.reading.by t.reads.reading.children
+-- how long the moves are
+moves_long : (g : Grammar) (ws : List Word) (t : First g g.start ws) → length (moves_of t) ≡ length (inner_of t) + 2
+moves_long g ws t = length-append (inner_of t) (0 ∷ 129 ∷ [])
 
-  pub moves_long : (t : First g g.start ws) → length (moves_of t) ≡ length (inner_of t) + 2
-  moves_long t = length-append (inner_of t) (0 ∷ 129 ∷ [])
+-- the rule of the whole reading is opened: its children's moves are owed
+root : (g : Grammar) (ws : List Word) (X n : ℕ) (top : Open) → X ≡ g.start → n ≡ length ws → OpensFirst g ws X 0 n top → (t : First g g.start ws) → Owed g ws (top ∷ []) (inner_of t)
+root g ws X n top start many opens t = record {
+  end = 0 + length (yield t.reads.reading.children);
+  pending = (0, t.reads.reading.children, [], (refl, refl), opened.1, refl, ap (λ r. inner r t.reads.reading.children) (sym opened.0));
+  inside = omega (arith, t.reads.is.long);
+}
+  where
+    there : OpensFirst g ws g.start 0 (length ws) top
+    there = subst (λ Y. OpensFirst g ws Y 0 (length ws) top) start (subst (λ k. OpensFirst g ws X 0 k top) many opens)
 
-  pub few_moves : length ws ≤ 100 → (t : First g g.start ws) → length (inner_of t) + 2 ≤ 12836
-  few_moves few t = omega (arith, moves_long t, (p.known t.reads).few_moves few)
+    opened : (top.choice.rule ≡ t.reads.reading.by) × OpenIs g ws top 0 t.reads.reading.children
+    opened = subst (λ us. (u : Reads g g.start us) → Least u → (top.choice.rule ≡ u.reading.by) × OpenIs g ws top 0 u.reading.children) (between_all ws) (there (first g.start self) (omega arith)) t.reads t.least
 
-  -- the rule of the whole reading is opened: its children's moves are owed
-  pub root : (X n : ℕ) (top : Open) → X ≡ g.start → n ≡ length ws → OpensFirst g ws X 0 n top → (t : First g g.start ws) → Owed g ws (top ∷ []) (inner_of t)
-  root X n top start many opens t = record {
-    end = 0 + length (yield t.reads.reading.children);
-    pending = (0, t.reads.reading.children, [], (refl, refl), opened.1, refl, ap (λ r. inner r t.reads.reading.children) (sym opened.0));
-    inside = omega (arith, t.reads.is.long);
-  }
-    where
-      there : OpensFirst g ws g.start 0 (length ws) top
-      there = subst (λ Y. OpensFirst g ws Y 0 (length ws) top) start (subst (λ k. OpensFirst g ws X 0 k top) many opens)
-
-      opened : (top.choice.rule ≡ t.reads.reading.by) × OpenIs g ws top 0 t.reads.reading.children
-      opened = subst (λ us. (u : Reads g g.start us) → Least u → (top.choice.rule ≡ u.reading.by) × OpenIs g ws top 0 u.reading.children) (between_all ws) (there (first g.start self) (omega arith)) t.reads t.least
-
-  -- so many rules, as the moves past the words tell
-  pub threefold : (t : First g g.start ws) (n k : ℕ) → n ≡ length (inner_of t) + 2 → k ≡ length ws → 1 + 3 * (n - k) ≡ 1 + 6 * rules_of t
-  threefold t n k many words = omega (arith, many, words, moves_long t, (p.known t.reads).many)
-
-  pub written : (t : First g g.start ws) (old new : List ℕ) (n k : ℕ) → n ≡ length (inner_of t) + 2 → k ≡ length ws → n ≤ length old → new ≡ inner_of t ++ (0 ∷ 129 ∷ drop n old)
-      → ReadingWritten g ws old new (record { moves = n; depth = 1 + 3 * (n - k) })
-  written t old new n k many words room is = record {
-    first = t;
-    fits = omega (arith, moves_long t, many, room);
-    strip = is ∙ (ap (λ j. inner_of t ++ (0 ∷ 129 ∷ drop j old)) long ∙ sym (append_assoc (inner_of t) (0 ∷ 129 ∷ []) (drop (length (moves_of t)) old)));
-    many = long;
-    exact = long ∙ (p.known t.reads).many;
-    deep = λ j s led. omega (arith, (p.deep t.reads j s led).second, threefold t n k many words);
-    not_deeper = omega (arith, threefold t n k many words);
-    accepted = λ room second third. record {
-      run = (p.known t.reads).run;
-      fit = λ j s led. let d = p.deep t.reads j s led in record { second = omega (arith, d.second, second, threefold t n k many words); third = omega (arith, d.third, third) };
-    };
-  }
-    where
-      long : n ≡ length (moves_of t)
-      long = many ∙ sym (moves_long t)
-
-  -- or it is refused
-  pub refused_whole : (places k : ℕ) → k ≡ length ws → (Whole g ws → ⊥) → ReadingRefused g ws places (NotWhole k)
-  refused_whole places k words none = subst (λ n. ReadingRefused g ws places (NotWhole n)) (sym words) (ReadingRefused.not_whole (λ t. none (p.whole.1 t)))
-
-  pub refused_short : (t : First g g.start ws) (places n k : ℕ) → n ≡ length (inner_of t) + 2 → k ≡ length ws → places < n → ReadingRefused g ws places (StripShort k)
-  refused_short t places n k many words less = subst (λ n. ReadingRefused g ws places (StripShort n)) (sym words) (ReadingRefused.short t (omega (arith, moves_long t, many, less)))
-
--- what is at hand when the rule of the whole reading is opened
-pub record Rooted (g : Grammar) (ws : List Word) (top : Open) (held : ℕ) : Type 0 where
-  pub known : Programmes g ws
-  pub first : First g g.start ws
-  pub owed : Owed g ws (top ∷ []) (inner_of g ws known first)
-  pub words : held ≡ length ws
-  pub few : length (inner_of g ws known first) + 2 ≤ 12836
-  pub long : held ≤ length (inner_of g ws known first) + 2
-
+-- the words held are a programme, whose first reading is opened
 pub rooted : (book : SoundBook) (d : Seen) → (sound_meaning book).grammar ≡ d.grammar → Stands d → Whole d.grammar (words d) → (X n held : ℕ) (top : Open)
     → X ≡ (sound_meaning book).grammar.start → n ≡ d.held → held ≡ n → OpensFirst d.grammar (words d) X 0 n top → Rooted d.grammar (words d) top held
 rooted book d same stands whole X n held top start many is opens =
@@ -116,12 +71,52 @@ rooted book d same stands whole X n held top start many is opens =
     let p = programmes g ws (book, same) in
     let t = p.exists (p.whole.0 whole) in
     let long = held_long d stands in
-    let small : length ws ≤ 100 = omega (arith, long, stands.few) in
     record {
-      known = p;
       first = t;
-      owed = root g ws p X n top (start ∙ ap (λ h. h.start) same) (many ∙ sym long) opens t;
+      owed = root g ws X n top (start ∙ ap (λ h. h.start) same) (many ∙ sym long) opens t;
       words = is ∙ (many ∙ sym long);
-      few = few_moves g ws p small t;
-      long = omega (arith, is, many, long, moves_long g ws p t, (p.known t.reads).many);
+      few_words = omega (arith, long, stands.few);
+      known = p.known t.reads;
+      deep = p.deep t.reads;
     }
+
+-- or they are none
+pub refused_whole : (g : Grammar) (ws : List Word) → Programmes g ws → (places k : ℕ) → k ≡ length ws → (Whole g ws → ⊥) → ReadingRefused g ws places (NotWhole k)
+refused_whole g ws p places k words none = subst (λ n. ReadingRefused g ws places (NotWhole n)) (sym words) (ReadingRefused.not_whole (λ t. none (p.whole.1 t)))
+
+module _ (g : Grammar) (ws : List Word) (top : Open) (held : ℕ) (r : Rooted g ws top held) where
+  abbrev t : First g g.start ws
+  t = r.first
+
+  -- there are few moves, and no fewer than words
+  pub few_moves : length (inner_of r.first) + 2 ≤ 12836
+  few_moves = omega (arith, moves_long g ws t, r.known.few_moves r.few_words)
+
+  pub some_moves : held ≤ length (inner_of r.first) + 2
+  some_moves = omega (arith, r.words, moves_long g ws t, r.known.many)
+
+  module _ (n : ℕ) (many : n ≡ length (inner_of r.first) + 2) where
+    -- so many rules, as the moves past the words tell
+    threefold : 1 + 3 * (n - held) ≡ 1 + 6 * rules_of t
+    threefold = omega (arith, many, r.words, moves_long g ws t, r.known.many)
+
+    long : n ≡ length (moves_of t)
+    long = many ∙ sym (moves_long g ws t)
+
+    pub written : (old new : List ℕ) → n ≤ length old → new ≡ inner_of r.first ++ (0 ∷ 129 ∷ drop n old) → ReadingWritten g ws old new (record { moves = n; depth = 1 + 3 * (n - held) })
+    written old new room is = record {
+      first = t;
+      fits = omega (arith, long, room);
+      strip = is ∙ (ap (λ j. inner_of t ++ (0 ∷ 129 ∷ drop j old)) long ∙ sym (append_assoc (inner_of t) (0 ∷ 129 ∷ []) (drop (length (moves_of t)) old)));
+      many = long;
+      exact = long ∙ r.known.many;
+      deep = λ j s led. omega (arith, (r.deep j s led).second, threefold);
+      not_deeper = omega (arith, threefold);
+      accepted = λ room second third. record {
+        run = r.known.run;
+        fit = λ j s led. let d = r.deep j s led in record { second = omega (arith, d.second, second, threefold); third = omega (arith, d.third, third) };
+      };
+    }
+
+    pub refused_short : (places : ℕ) → places < n → ReadingRefused g ws places (StripShort held)
+    refused_short places less = subst (λ k. ReadingRefused g ws places (StripShort k)) (sym r.words) (ReadingRefused.short t (omega (arith, long, less)))

@@ -2,9 +2,9 @@
 ghost use Rattle.std.specs.Prelude.{◌≡◌, ℕ, ◌≤◌, length, Err, MatchResult};
 ghost use Rattle.rulebook.specs.declared.faults.Fault.TheVariants.{StripShort};
 ghost use Rattle.chart.specs.States.{words, Stands};
-ghost use Rattle.reading.specs.Written.{ReadingWritten, ReadingRefused};
+ghost use Rattle.reading.specs.Written.{ReadingWritten, ReadingRefused, Rooted};
 
-use super::walks::{count, opened, write};
+use super::walks::{Open, count, opened, write};
 use chart::Draft;
 use rulebook::{Book, Fault};
 
@@ -13,6 +13,24 @@ use rulebook::{Book, Fault};
 pub struct Written {
     pub moves: usize,
     pub depth: usize,
+}
+
+// Writes the moves of the first reading, of which the top rule is opened, if the strip has a place for each.
+fn write_all(draft: &Draft, top: Open, held: usize, strip: &mut [u8]) -> Result<Written, Fault>
+    requires { Rooted draft.now.grammar (words draft.now) top held }
+    ensures read { let g = draft.now.grammar in let ws = words draft.now in MatchResult result (ReadingWritten g ws strip.old strip.new) (λ f. ReadingRefused g ws (length strip.old) f × (strip.new ≡ strip.old)) }
+    ensures space { (held : ℕ) → 12836 ≤ length strip.old → result ≡ Err (StripShort held) → ⊥ }
+{
+    let moves = count(draft, top);
+    if strip.len() < moves {
+        return Err(Fault::StripShort { held });
+    }
+    write(draft, top, strip, moves);
+    // Of 2m + n moves for m rules over n words, 6m are the threefold of those past n.
+    Ok(Written {
+        moves,
+        depth: 1 + 3 * (moves - held),
+    })
 }
 
 // Writes the moves of the first reading of the words held to the front of the strip. Refused where the words are no
@@ -29,14 +47,5 @@ pub fn reading(draft: &Draft, strip: &mut [u8]) -> Result<Written, Fault>
         return Err(Fault::NotWhole { held });
     }
     let top = opened(draft, book.start(), 0, words);
-    let moves = count(draft, top);
-    if strip.len() < moves {
-        return Err(Fault::StripShort { held });
-    }
-    write(draft, top, strip, moves);
-    // Of 2m + n moves for m rules over n words, 6m are the threefold of those past n.
-    Ok(Written {
-        moves,
-        depth: 1 + 3 * (moves - held),
-    })
+    write_all(draft, top, held, strip)
 }
