@@ -3,6 +3,7 @@ use Rattle.std.proofs.Common.{◌≡◌, ℕ, zero, suc, ◌<◌, List, [], ◌�
 use Rattle.std.specs.List.{AllByRecursion}
 use Rattle.language.specs.Readings.{Item as Told}
 use Rattle.language.specs.Columns.{Among, Apart}
+use Rattle.language.proofs.Members.{among_map}
 use Rattle.chart.specs.Items.{blank_item, told}
 use Rattle.chart.specs.declared.items.Item.{Item}
 
@@ -15,11 +16,15 @@ pub all_at : (P : Told → Type 0) (xs : List Item) → ((q : ℕ) → q < lengt
 all_at P [] h = tt
 all_at P (x ∷ xs) h = (h 0 (omega arith), all_at P xs (λ q l. h (suc q) (omega arith)))
 
--- an item at a place is in the list
+-- what stands at a place of a list is in it
+pub among_get : {A : Type 0} (xs : List A) (q : ℕ) (past : A) → q < length xs → Among (get_or xs q past) xs
+among_get [] q past l = absurd (omega arith)
+among_get (x ∷ xs) zero past l = inl refl
+among_get (x ∷ xs) (suc q) past l = inr (among_get xs q past (omega arith))
+
+-- so is what is told of an item at a place
 pub among_at : (xs : List Item) (q : ℕ) → q < length xs → Among (told (get_or xs q blank_item)) (map told xs)
-among_at [] q l = absurd (omega arith)
-among_at (x ∷ xs) zero l = inl refl
-among_at (x ∷ xs) (suc q) l = inr (among_at xs q (omega arith))
+among_at xs q l = among_map told (get_or xs q blank_item) xs (among_get xs q blank_item l)
 
 -- and an item in the list is at a place
 pub record Found (xs : List Item) (t : Told) : Type 0 where

@@ -1,5 +1,5 @@
 -- A draft of a sound book, drawn over a chart that was lent: what is seen of it, and that it stays so from call to call.
-use Rattle.std.proofs.Common.{◌≡◌, ℕ, zero, suc, ◌-◌, ◌<◌, ◌≤◌, min, List, [], ◌∷◌, ◌++◌, length, get_or, take, drop, replicate, refl, sym, ap, ◌∙◌, subst, inl, inr, ⊎_elim, arith, append_assoc, length-append}
+use Rattle.std.proofs.Common.{◌≡◌, ℕ, ◌-◌, ◌<◌, ◌≤◌, min, List, ◌++◌, length, get_or, take, drop, replicate, sym, ap, ◌∙◌, subst, ⊎_elim, arith, append_assoc, length-append}
 use Rattle.std.proofs.lemmas.List.{length-take-le, length-replicate, get_or-take, get_or_append_left}
 use Rattle.std.proofs.lemmas.Bool.{cases_lt}
 use Rattle.std.proofs.lemmas.Slice.{drop-append-drop}
@@ -8,12 +8,12 @@ use Rattle.language.specs.Sound.{Sound}
 use Rattle.language.specs.Words.{Word}
 use Rattle.language.specs.Readings.{Item}
 use Rattle.language.specs.Chart.{HeldItem}
-use Rattle.language.specs.Columns.{Among}
 use Rattle.language.specs.Drafts.{Items}
 use Rattle.language.proofs.Chart.Theorem.{chart_theorem}
 use Rattle.language.proofs.Members.{all_among}
 use Rattle.chart.specs.Items.{blank_told}
 use Rattle.chart.specs.States.{State, record_at, words, in_use, place, blanked, Stands, before}
+use Rattle.chart.proofs.Places.{among_get}
 use Rattle.chart.proofs.Pressing.{held_long}
 use Rattle.chart.proofs.Seen.{blanked_long}
 use Rattle.dialogue.specs.Law.{Moment, ItemsOver, Seen}
@@ -29,12 +29,6 @@ pub record Drawn (g : Grammar) (lent : List Item) (d : State) : Type 0 where
   pub stands : Stands d
   pub past : drop (min 60000 (length lent)) d.places ≡ drop (min 60000 (length lent)) lent
   pub long : length d.places ≡ length lent
-
--- a place of a list is in it
-among_get : {A : Type 0} (xs : List A) (q : ℕ) (x : A) → q < length xs → Among (get_or xs q x) xs
-among_get [] q x l = absurd (omega arith)
-among_get (y ∷ xs) zero x l = inl refl
-among_get (y ∷ xs) (suc q) x l = inr (among_get xs q x (omega arith))
 
 -- places that are blanked leave all past them
 pub blanked_past : (ts : List Item) (from past n : ℕ) → from ≤ past → past ≤ length ts → past ≤ n → drop n (blanked ts from past) ≡ drop n ts
