@@ -1,4 +1,4 @@
--- One call on a draft that is drawn over a lent chart: it stays so, and the call keeps the law.
+-- One call on a draft over a chart that was lent: it stays one, and the call keeps the law.
 use Rattle.std.proofs.Common.{◌≡◌, ℕ, suc, ◌+◌, ◌-◌, ◌*◌, ◌≤◌, ◌↔◌, Bool, true, false, IsTrue, min, List, [], ◌∷◌, ◌++◌, map, length, get_or, take, drop, refl, sym, ap, ◌∙◌, subst, inl, inr, arith, length-append}
 use Rattle.std.proofs.Math.Option.{some}
 use Rattle.std.proofs.lemmas.List.{take-set, map_more, take_at}
@@ -31,7 +31,7 @@ use Rattle.dialogue.specs.declared.calls.Answer.TheVariants.{Items, Keys, Yes, M
 use Rattle.dialogue.specs.Law.{Moment, Matches, Fit, PressLaw, RubOutLaw, LitLaw, WholeLaw, FirstWritten, ReadingLaw, CallLaw}
 use Rattle.dialogue.specs.Chain.{Answered, Answers, Made}
 use Rattle.chart.proofs.Pressing.{held_long}
-use Rattle.dialogue.proofs.Drawing.{moment_of, Drawn, items_over, drawn_less, drawn_more}
+use Rattle.dialogue.proofs.Lending.{moment_of, DraftOver, items_over, over_less, over_more}
 
 -- an answer that gives something is no refusal
 pub items_taken : (k : ℕ) (f : Fault) (a : Answer) → a ≡ Items k → a ≡ Refused f → ⊥
@@ -124,8 +124,8 @@ module _ (m : Meaning) (sound : Sound m) (lent : List Item) where
     strip = same;
   }
 
-  -- of any call: the draft is drawn before it, and stands after it
-  module _ (d e : State) (s t : List ℕ) (a : Answer) (drawn : Drawn g lent d) (now : Stands e) where
+  -- of any call: before it the draft is one over the lent chart, and after it the draft stands
+  module _ (d e : State) (s t : List ℕ) (a : Answer) (is_over : DraftOver g lent d) (now : Stands e) where
     abbrev ws : List Word
     ws = words d
 
@@ -137,14 +137,14 @@ module _ (m : Meaning) (sound : Sound m) (lent : List Item) where
 
     -- what holds of the draft's own grammar and places holds of the book's and the chart's
     same_book : (P : Grammar → ℕ → Type 0) → P d.grammar d.budget → P g places
-    same_book P p = subst (λ g. P g places) drawn.grammar (subst (P d.grammar) drawn.budget p)
+    same_book P p = subst (λ g. P g places) is_over.grammar (subst (P d.grammar) is_over.budget p)
 
-    -- an unchanged draft shows the same, and stays drawn
+    -- an unchanged draft shows the same, and is still one over the lent chart
     same_moment : e ≡ d → t ≡ s → new ≡ old
     same_moment p q = ap (λ d. moment_of d t) p ∙ ap (moment_of d) q
 
-    same_drawn : e ≡ d → Drawn g lent e
-    same_drawn p = subst (Drawn g lent) (sym p) drawn
+    same_is_over : e ≡ d → DraftOver g lent e
+    same_is_over p = subst (DraftOver g lent) (sym p) is_over
 
     -- press
     press_law : (w : Word) → t ≡ s → Answered Items (Pressed d e w) (NotPressed d e w) a → PressLaw g places old w a new
@@ -162,26 +162,26 @@ module _ (m : Meaning) (sound : Sound m) (lent : List Item) where
         }
     press_law w same (inr (f, p, is)) = press_refused old new w a f (same_book (λ g n. PressRefused g n ws w f) p.refused) is same
 
-    press_drawn : (w : Word) → Answered Items (Pressed d e w) (NotPressed d e w) a → Drawn g lent e
-    press_drawn w (inl (k, p, is)) = drawn_more m sound lent e d now drawn.stands p.before drawn
-    press_drawn w (inr (f, p, is)) = same_drawn p.same
+    press_is_over : (w : Word) → Answered Items (Pressed d e w) (NotPressed d e w) a → DraftOver g lent e
+    press_is_over w (inl (k, p, is)) = over_more m sound lent e d now is_over.stands p.before is_over
+    press_is_over w (inr (f, p, is)) = same_is_over p.same
 
     -- rub out
     rub_law : t ≡ s → Answered Items (RubbedOut d e) (NotRubbedOut d e) a → RubOutLaw old a new
     rub_law same (inl (k, p, is)) = record {
-      none = λ empty. absurd (omega (arith, p.some, held_long d drawn.stands, ap length empty));
-      some = λ vs w all. (is ∙ ap Items p.answer, ap words p.before ∙ sym (front_same vs (words (before d)) w (last_word d) (sym all ∙ words_less d drawn.stands p.some)));
+      none = λ empty. absurd (omega (arith, p.some, held_long d is_over.stands, ap length empty));
+      some = λ vs w all. (is ∙ ap Items p.answer, ap words p.before ∙ sym (front_same vs (words (before d)) w (last_word d) (sym all ∙ words_less d is_over.stands p.some)));
       strip = same;
     }
     rub_law same (inr (f, p, is)) = record {
       none = λ _. is ∙ ap Refused p.fault;
-      some = λ vs w all. absurd (omega (arith, p.none, held_long d drawn.stands, ap length all, length-append vs (w ∷ [])));
+      some = λ vs w all. absurd (omega (arith, p.none, held_long d is_over.stands, ap length all, length-append vs (w ∷ [])));
       strip = same;
     }
 
-    rub_drawn : Answered Items (RubbedOut d e) (NotRubbedOut d e) a → Drawn g lent e
-    rub_drawn (inl (k, p, is)) = drawn_less m sound lent d e drawn.stands now (sym p.before) drawn
-    rub_drawn (inr (f, p, is)) = same_drawn p.same
+    rub_is_over : Answered Items (RubbedOut d e) (NotRubbedOut d e) a → DraftOver g lent e
+    rub_is_over (inl (k, p, is)) = over_less m sound lent d e is_over.stands now (sym p.before) is_over
+    rub_is_over (inr (f, p, is)) = same_is_over p.same
 
     -- lit
     lit_law : (l : LitSet) → e ≡ d → t ≡ s → LitIs d l → a ≡ Keys l → LitLaw g old a new
@@ -190,7 +190,7 @@ module _ (m : Meaning) (sound : Sound m) (lent : List Item) where
           lit = l;
           answer = is;
           exact = λ c.
-              let keys : IsTrue (has l.keys c) ↔ Lit g ws c = subst (λ g. IsTrue (has l.keys c) ↔ Lit g ws c) drawn.grammar (lit.keys c) in
+              let keys : IsTrue (has l.keys c) ↔ Lit g ws c = subst (λ g. IsTrue (has l.keys c) ↔ Lit g ws c) is_over.grammar (lit.keys c) in
               (λ h. ((chart_theorem m sound ws).lit c).0 (keys.0 h), λ h. keys.1 (((chart_theorem m sound ws).lit c).1 h));
           count = lit.count;
           same = same_moment p q;
@@ -199,7 +199,7 @@ module _ (m : Meaning) (sound : Sound m) (lent : List Item) where
     -- whole
     whole_law : (b : Bool) → e ≡ d → t ≡ s → IsTrue b ↔ Whole d.grammar ws → a ≡ Yes b → WholeLaw g old a new
     whole_law b p q whole is =
-        let here : IsTrue b ↔ Whole g ws = subst (λ g. IsTrue b ↔ Whole g ws) drawn.grammar whole in
+        let here : IsTrue b ↔ Whole g ws = subst (λ g. IsTrue b ↔ Whole g ws) is_over.grammar whole in
         record {
           yes = λ all. is ∙ ap Yes (here.1 ((chart_theorem m sound ws).whole.1 all));
           no = λ none. is ∙ ap Yes (not_true b (λ y. none ((chart_theorem m sound ws).whole.0 (here.0 y))));
@@ -244,7 +244,7 @@ module _ (m : Meaning) (sound : Sound m) (lent : List Item) where
 
     reading_law : e ≡ d → Answered Moves (ReadingWritten d.grammar ws s t) (λ f. ReadingRefused d.grammar ws (length s) f × (t ≡ s)) a → ReadingLaw g old a new
     reading_law p (inl (w, r, is)) =
-        let here : ReadingWritten g ws s t w = subst (λ g. ReadingWritten g ws s t w) drawn.grammar r in
+        let here : ReadingWritten g ws s t w = subst (λ g. ReadingWritten g ws s t w) is_over.grammar r in
         record {
           not_whole = λ none. absurd (none here.first.reads);
           short = λ x l. absurd (omega (arith, l, here.fits, ap length (same_moves here.first x)));
@@ -252,7 +252,7 @@ module _ (m : Meaning) (sound : Sound m) (lent : List Item) where
           programme = λ _ _. here.first.reads;
           exists = λ _. here.first;
         }
-    reading_law p (inr (f, r, is)) = reading_refused f is (subst (λ g. ReadingRefused g ws (length s) f) drawn.grammar r.0)
+    reading_law p (inr (f, r, is)) = reading_refused f is (subst (λ g. ReadingRefused g ws (length s) f) is_over.grammar r.0)
 
     -- a refused call changes nothing
     refused_same : {A : Type 0} (gives : A → Answer) (taken : A → Type 0) (refused : Fault → Type 0) → ((x : A) (f : Fault) → a ≡ gives x → a ≡ Refused f → ⊥) → ((f : Fault) → refused f → new ≡ old)
@@ -262,37 +262,37 @@ module _ (m : Meaning) (sound : Sound m) (lent : List Item) where
 
   -- what one call does
   pub record Step (d e : State) (s t : List ℕ) (c : Call Word) (a : Answer) : Type 0 where
-    pub drawn : Drawn g lent e
+    pub is_over : DraftOver g lent e
     pub law : CallLaw g places (moment_of d s) c a (moment_of e t)
     pub refused : (f : Fault) → a ≡ Refused f → moment_of e t ≡ moment_of d s
 
   -- for each kind of call
-  step : (d e : State) (s t : List ℕ) (c : Call Word) (a : Answer) → Drawn g lent d → Stands e → Answers d s c a e t → Step d e s t c a
-  step d e s t (Press w) a drawn now (same, said) = record {
-    drawn = press_drawn d e s t a drawn now w said;
-    law = press_law d e s t a drawn now w same said;
-    refused = refused_same d e s t a drawn now Items (Pressed d e w) (NotPressed d e w) (λ k f. items_taken k f a) (λ f n. same_moment d e s t a drawn now n.same same) said;
+  step : (d e : State) (s t : List ℕ) (c : Call Word) (a : Answer) → DraftOver g lent d → Stands e → Answers d s c a e t → Step d e s t c a
+  step d e s t (Press w) a is_over now (same, said) = record {
+    is_over = press_is_over d e s t a is_over now w said;
+    law = press_law d e s t a is_over now w same said;
+    refused = refused_same d e s t a is_over now Items (Pressed d e w) (NotPressed d e w) (λ k f. items_taken k f a) (λ f n. same_moment d e s t a is_over now n.same same) said;
   }
-  step d e s t RubOut a drawn now (same, said) = record {
-    drawn = rub_drawn d e s t a drawn now said;
-    law = rub_law d e s t a drawn now same said;
-    refused = refused_same d e s t a drawn now Items (RubbedOut d e) (NotRubbedOut d e) (λ k f. items_taken k f a) (λ f n. same_moment d e s t a drawn now n.same same) said;
+  step d e s t RubOut a is_over now (same, said) = record {
+    is_over = rub_is_over d e s t a is_over now said;
+    law = rub_law d e s t a is_over now same said;
+    refused = refused_same d e s t a is_over now Items (RubbedOut d e) (NotRubbedOut d e) (λ k f. items_taken k f a) (λ f n. same_moment d e s t a is_over now n.same same) said;
   }
-  step d e s t AskLit a drawn now (p, q, (l, lit, is)) = record {
-    drawn = same_drawn d e s t a drawn now p;
-    law = lit_law d e s t a drawn now l p q lit is;
+  step d e s t AskLit a is_over now (p, q, (l, lit, is)) = record {
+    is_over = same_is_over d e s t a is_over now p;
+    law = lit_law d e s t a is_over now l p q lit is;
     refused = λ f r. absurd (keys_given l f a is r);
   }
-  step d e s t AskWhole a drawn now (p, q, (b, whole, is)) = record {
-    drawn = same_drawn d e s t a drawn now p;
-    law = whole_law d e s t a drawn now b p q whole is;
+  step d e s t AskWhole a is_over now (p, q, (b, whole, is)) = record {
+    is_over = same_is_over d e s t a is_over now p;
+    law = whole_law d e s t a is_over now b p q whole is;
     refused = λ f r. absurd (yes_given b f a is r);
   }
-  step d e s t Reading a drawn now (p, said) = record {
-    drawn = same_drawn d e s t a drawn now p;
-    law = reading_law d e s t a drawn now p said;
-    refused = refused_same d e s t a drawn now Moves (ReadingWritten d.grammar (words d) s t) (λ f. ReadingRefused d.grammar (words d) (length s) f × (t ≡ s)) (λ w f. moves_given w f a) (λ f n. same_moment d e s t a drawn now p n.1) said;
+  step d e s t Reading a is_over now (p, said) = record {
+    is_over = same_is_over d e s t a is_over now p;
+    law = reading_law d e s t a is_over now p said;
+    refused = refused_same d e s t a is_over now Moves (ReadingWritten d.grammar (words d) s t) (λ f. ReadingRefused d.grammar (words d) (length s) f × (t ≡ s)) (λ w f. moves_given w f a) (λ f n. same_moment d e s t a is_over now p n.1) said;
   }
 
-  pub made : (d e : State) (s t : List ℕ) (c : Call Word) (a : Answer) → Drawn g lent d → Made d s c a e t → Step d e s t c a
-  made d e s t c a drawn one = step d e s t c a drawn one.stands one.answers
+  pub made : (d e : State) (s t : List ℕ) (c : Call Word) (a : Answer) → DraftOver g lent d → Made d s c a e t → Step d e s t c a
+  made d e s t c a is_over one = step d e s t c a is_over one.stands one.answers

@@ -1,6 +1,6 @@
 pub mod Answering
 pub mod Chaining
-pub mod Drawing
+pub mod Lending
 pub mod Opening
 pub mod Running
 pub mod Shown

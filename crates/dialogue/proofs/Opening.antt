@@ -1,4 +1,4 @@
--- A draft that was just opened stands, and is drawn over the chart that was lent.
+-- A draft that was just opened is one over the chart that was lent.
 use Rattle.std.proofs.Common.{◌≡◌, ◌-◌, min, List, [], length, drop, replicate, refl, sym, ap, ◌∙◌, arith}
 use Rattle.std.proofs.lemmas.List.{length-replicate, get_or-replicate, get_or_append_left}
 use Rattle.language.specs.Book.{Meaning}
@@ -9,7 +9,7 @@ use Rattle.language.proofs.Columns.Theorem.{columns_theorem}
 use Rattle.chart.specs.Items.{blank_told}
 use Rattle.chart.specs.States.{no_word, blanked, Stands, opened}
 use Rattle.chart.proofs.Seen.{blanked_long}
-use Rattle.dialogue.proofs.Drawing.{Drawn, blanked_past}
+use Rattle.dialogue.proofs.Lending.{DraftOver, blanked_past}
 
 module _ (m : Meaning) (sound : Sound m) (lent : List Item) where
   no_items : Items m.grammar [] []
@@ -37,8 +37,8 @@ module _ (m : Meaning) (sound : Sound m) (lent : List Item) where
     cleared = λ k some l. get_or-replicate 100 (k - 1) no_word no_word (omega arith);
   }
 
-  pub opened_drawn : Drawn m.grammar lent (opened m.grammar lent)
-  opened_drawn = record {
+  pub opened_is_over : DraftOver m.grammar lent (opened m.grammar lent)
+  opened_is_over = record {
     grammar = refl;
     budget = refl;
     stands = opened_stands;

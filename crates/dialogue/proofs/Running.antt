@@ -11,9 +11,9 @@ use Rattle.dialogue.specs.declared.calls.Answer.{Answer}
 use Rattle.dialogue.specs.declared.calls.Answer.TheVariants.{Refused}
 use Rattle.dialogue.specs.Law.{Moment, Seen, CallLaw, Law, call_at, answer_at}
 use Rattle.dialogue.specs.Chain.{Chain, none, more}
-use Rattle.dialogue.proofs.Drawing.{moment_of, Drawn, seen}
+use Rattle.dialogue.proofs.Lending.{moment_of, DraftOver, seen}
 use Rattle.dialogue.proofs.Answering.{Step, made}
-use Rattle.dialogue.proofs.Opening.{opened_drawn}
+use Rattle.dialogue.proofs.Opening.{opened_is_over}
 
 -- one moment, and then others
 abbrev then : Moment → (ℕ → Moment) → ℕ → Moment
@@ -37,23 +37,23 @@ module _ (m : Meaning) (sound : Sound m) (lent : List Item) where
     refused : (k : ℕ) (f : Fault) → k < length calls → answer_at answers k ≡ Refused f → moment (suc k) ≡ moment k
     last : moment (length calls) ≡ end
 
-  ran_none : (d : State) (s : List ℕ) → Drawn g lent d → Ran (moment_of d s) [] [] (moment_of d s)
-  ran_none d s drawn = record {
+  ran_none : (d : State) (s : List ℕ) → DraftOver g lent d → Ran (moment_of d s) [] [] (moment_of d s)
+  ran_none d s is_over = record {
     moment = λ k. moment_of d s;
     answered = refl;
     first = refl;
-    seen = λ k l. seen m sound lent d s drawn;
+    seen = λ k l. seen m sound lent d s is_over;
     call = λ k l. absurd (omega arith);
     refused = λ k f l. absurd (omega arith);
     last = refl;
   }
 
-  module _ (d e : State) (s t : List ℕ) (c : Call Word) (a : Answer) (calls : List (Call Word)) (answers : List Answer) (end : Moment) (drawn : Drawn g lent d) (one : Step m sound lent d e s t c a) (rest : Ran (moment_of e t) calls answers end) where
+  module _ (d e : State) (s t : List ℕ) (c : Call Word) (a : Answer) (calls : List (Call Word)) (answers : List Answer) (end : Moment) (is_over : DraftOver g lent d) (one : Step m sound lent d e s t c a) (rest : Ran (moment_of e t) calls answers end) where
     abbrev moments : ℕ → Moment
     moments = then (moment_of d s) rest.moment
 
     seen_each : (k : ℕ) → k ≤ length (c ∷ calls) → Seen g lent places (moments k)
-    seen_each zero l = seen m sound lent d s drawn
+    seen_each zero l = seen m sound lent d s is_over
     seen_each (suc k) l = rest.seen k (omega (arith, l))
 
     call_each : (k : ℕ) → k < length (c ∷ calls) → CallLaw g places (moments k) (call_at (c ∷ calls) k) (answer_at (a ∷ answers) k) (moments (suc k))
@@ -75,16 +75,16 @@ module _ (m : Meaning) (sound : Sound m) (lent : List Item) where
       last = rest.last;
     }
 
-  ran : (d e : State) (s t : List ℕ) (calls : List (Call Word)) (answers : List Answer) → Drawn g lent d → Chain d s calls answers e t → Ran (moment_of d s) calls answers (moment_of e t)
-  ran _ _ _ _ _ _ drawn (none d s) = ran_none d s drawn
-  ran _ _ _ _ _ _ drawn (more d e f s t u c a calls answers first rest) =
-      let one : Step m sound lent d e s t c a = made m sound lent d e s t c a drawn first in
-      ran_more d e s t c a calls answers (moment_of f u) drawn one (ran e f t u calls answers one.drawn rest)
+  ran : (d e : State) (s t : List ℕ) (calls : List (Call Word)) (answers : List Answer) → DraftOver g lent d → Chain d s calls answers e t → Ran (moment_of d s) calls answers (moment_of e t)
+  ran _ _ _ _ _ _ is_over (none d s) = ran_none d s is_over
+  ran _ _ _ _ _ _ is_over (more d e f s t u c a calls answers first rest) =
+      let one : Step m sound lent d e s t c a = made m sound lent d e s t c a is_over first in
+      ran_more d e s t c a calls answers (moment_of f u) is_over one (ran e f t u calls answers one.is_over rest)
 
   -- on a new draft
   pub law_kept : (d e : State) (s t : List ℕ) (calls : List (Call Word)) (answers : List Answer) → d ≡ opened g lent → Chain d s calls answers e t → Law g lent s calls answers e.places t
   law_kept d e s t calls answers is chain =
-      let r : Ran (moment_of d s) calls answers (moment_of e t) = ran d e s t calls answers (subst (Drawn g lent) (sym is) (opened_drawn m sound lent)) chain in
+      let r : Ran (moment_of d s) calls answers (moment_of e t) = ran d e s t calls answers (subst (DraftOver g lent) (sym is) (opened_is_over m sound lent)) chain in
       record {
         moment = r.moment;
         answered = r.answered;

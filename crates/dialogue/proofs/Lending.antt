@@ -1,4 +1,4 @@
--- A draft of a sound book, drawn over a chart that was lent: what is seen of it, and that it stays so from call to call.
+-- A draft of a sound book over a chart that was lent: what is seen of it, and that it stays one from call to call.
 use Rattle.std.proofs.Common.{◌≡◌, ℕ, ◌-◌, ◌<◌, ◌≤◌, min, List, ◌++◌, length, get_or, take, drop, replicate, sym, ap, ◌∙◌, subst, ⊎_elim, arith, append_assoc, length-append}
 use Rattle.std.proofs.lemmas.List.{length-take-le, length-replicate, get_or-take, get_or_append_left}
 use Rattle.std.proofs.lemmas.Bool.{cases_lt}
@@ -22,8 +22,9 @@ use Rattle.dialogue.specs.Law.{Moment, ItemsOver, Seen}
 abbrev pub moment_of : State → List ℕ → Moment
 moment_of d s = record { words = words d; places = d.places; used = d.used; strip = s }
 
--- the draft's grammar, and what is left of the chart that was lent: its length, and all past the draft's places
-pub record Drawn (g : Grammar) (lent : List Item) (d : State) : Type 0 where
+-- the draft is one of this grammar over the chart that was lent: it stands, its places are the first of the chart, and the
+-- chart's length and all past these places are as they were
+pub record DraftOver (g : Grammar) (lent : List Item) (d : State) : Type 0 where
   pub grammar : d.grammar ≡ g
   pub budget : d.budget ≡ min 60000 (length lent)
   pub stands : Stands d
@@ -77,18 +78,18 @@ module _ (m : Meaning) (sound : Sound m) where
     places = min 60000 (length lent)
 
     -- what is seen of it
-    pub seen : (d : State) (s : List ℕ) → Drawn m.grammar lent d → Seen m.grammar lent places (moment_of d s)
-    seen d s drawn = record {
-      few = omega (arith, held_long d drawn.stands, drawn.stands.few);
-      fits = omega (arith, drawn.stands.fits, drawn.budget);
-      items = items_over (words d) (in_use d) (subst (λ g. Items g (words d) (in_use d)) drawn.grammar drawn.stands.items);
-      rising = drawn.stands.rising;
-      blank = λ q l h. drawn.stands.blank q l (omega (arith, h, drawn.budget));
-      past = drawn.past;
-      long = drawn.long;
+    pub seen : (d : State) (s : List ℕ) → DraftOver m.grammar lent d → Seen m.grammar lent places (moment_of d s)
+    seen d s is_over = record {
+      few = omega (arith, held_long d is_over.stands, is_over.stands.few);
+      fits = omega (arith, is_over.stands.fits, is_over.budget);
+      items = items_over (words d) (in_use d) (subst (λ g. Items g (words d) (in_use d)) is_over.grammar is_over.stands.items);
+      rising = is_over.stands.rising;
+      blank = λ q l h. is_over.stands.blank q l (omega (arith, h, is_over.budget));
+      past = is_over.past;
+      long = is_over.long;
     }
 
-    -- what a draft is drawn over stays when its last word goes, and when one comes
+    -- it stays one over the lent chart when its last word goes, and when one comes
     module _ (e d : State) (now : Stands e) (then : Stands d) (is : before e ≡ d) where
       module _ (same : d.grammar ≡ m.grammar) (budget : e.budget ≡ places) where
         order : (record_at e e.held).from ≤ e.used
@@ -100,24 +101,24 @@ module _ (m : Meaning) (sound : Sound m) where
         past_too : drop places d.places ≡ drop places e.places
         past_too = ap (λ (x : State). drop places x.places) (sym is) ∙ blanked_past e.places (record_at e e.held).from e.used places order (omega (arith, now.fits, now.budget)) (omega (arith, now.fits, budget))
 
-      pub drawn_less : Drawn m.grammar lent e → Drawn m.grammar lent d
-      drawn_less drawn =
-          let same : d.grammar ≡ m.grammar = ap (λ (x : State). x.grammar) (sym is) ∙ drawn.grammar in
+      pub over_less : DraftOver m.grammar lent e → DraftOver m.grammar lent d
+      over_less is_over =
+          let same : d.grammar ≡ m.grammar = ap (λ (x : State). x.grammar) (sym is) ∙ is_over.grammar in
           record {
             grammar = same;
-            budget = ap (λ (x : State). x.budget) (sym is) ∙ drawn.budget;
+            budget = ap (λ (x : State). x.budget) (sym is) ∙ is_over.budget;
             stands = then;
-            past = past_too same drawn.budget ∙ drawn.past;
-            long = long_too same drawn.budget ∙ drawn.long;
+            past = past_too same is_over.budget ∙ is_over.past;
+            long = long_too same is_over.budget ∙ is_over.long;
           }
 
-      pub drawn_more : Drawn m.grammar lent d → Drawn m.grammar lent e
-      drawn_more drawn =
-          let budget : e.budget ≡ places = ap (λ (x : State). x.budget) is ∙ drawn.budget in
+      pub over_more : DraftOver m.grammar lent d → DraftOver m.grammar lent e
+      over_more is_over =
+          let budget : e.budget ≡ places = ap (λ (x : State). x.budget) is ∙ is_over.budget in
           record {
-            grammar = ap (λ (x : State). x.grammar) is ∙ drawn.grammar;
+            grammar = ap (λ (x : State). x.grammar) is ∙ is_over.grammar;
             budget = budget;
             stands = now;
-            past = sym (past_too drawn.grammar budget) ∙ drawn.past;
-            long = sym (long_too drawn.grammar budget) ∙ drawn.long;
+            past = sym (past_too is_over.grammar budget) ∙ is_over.past;
+            long = sym (long_too is_over.grammar budget) ∙ is_over.long;
           }
