@@ -14,7 +14,8 @@ use Rattle.chart.specs.Boards.{Appended, Entered, NoPlace, Extends, at_place, is
 use Rattle.chart.specs.Filling.{Standing, HeldHere, Filling, Filled, Overfull}
 use Rattle.chart.specs.Items.{entry, blank_item, told}
 use Rattle.chart.specs.Marks.{Small, marked, is_item}
-use Rattle.chart.specs.Records.{grammar_of, words_of, words_with, wanted_in, used_of, matching}
+use Rattle.chart.specs.Starts.{has_start}
+use Rattle.chart.specs.Records.{grammar_of, words_of, words_with, wanted_in, used_of, matching, record_of}
 use Rattle.soundbook.specs.Sounds.{sound_meaning}
 use Rattle.chart.specs.declared.boards.Board.{Board}
 use Rattle.chart.specs.declared.items.Item.{Item}
@@ -165,6 +166,7 @@ module _ (s : Settled) (w : Matched) (ready : Ready s w) where
           let c = was.columns j x.place (omega (arith, (bounds r d i j h).forward)) l x.low x.high in
           record { place = x.place; low = x.low; high = x.high; is = at_old x.place (λ e. omega (arith, c.0, was.begins)) ∙ x.is };
       columns = λ j q a b l k. let c = was.columns j q a b l k in (c.0, ap (λ (x : Item). x.end) (at_old q (λ e. omega (arith, c.0, was.begins))) ∙ c.1);
+      starts = λ j a b q l k. let c = was.columns j q a b l k in ap (λ (x : Item). has_start (record_of s j).starts x.start) (at_old q (λ e. omega (arith, c.0, was.begins))) ∙ was.starts j a b q l k;
     }
 
   -- nothing is entered

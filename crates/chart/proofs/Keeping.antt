@@ -14,6 +14,7 @@ use Rattle.chart.specs.Filling.{Standing}
 use Rattle.chart.specs.Indexes.{IndexOf, corners_at}
 use Rattle.chart.specs.Items.{entry}
 use Rattle.chart.specs.Kept.{Column, Kept, Recorded}
+use Rattle.chart.specs.Starts.{has_start}
 use Rattle.chart.specs.Records.{grammar_of, words_of, words_with, record_of, blank_record, matching, wanted_in, past_of}
 use Rattle.chart.specs.declared.boards.Board.{Board}
 use Rattle.chart.specs.declared.indexes.Index.{Index}
@@ -46,6 +47,7 @@ same_column g a b k start r places inside c = record {
   };
   within = inside;
   ends = λ q low high. ap (λ (t : Item). t.end) (places q high) ∙ c.ends q low high;
+  starts = λ q low high. ap (λ (t : Item). has_start r.starts t.start) (places q (omega (arith, c.split.high))) ∙ c.starts q low high;
 }
 
 -- what a draft keeps of the places of its items
@@ -212,6 +214,7 @@ module _ (book : Bor SoundBook) (index : Index) (less more : List Record) (n m :
             split = done.split;
             within = omega (arith, done.past);
             ends = λ q low high. done.complete.column q (omega (arith, done.from)) (omega (arith, done.past)) ∙ omega (arith, one.next);
+            starts = done.starts;
           }))
           (λ ne.
           let early : k ≤ n = omega (arith, one.next) in

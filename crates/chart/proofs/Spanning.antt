@@ -1,29 +1,56 @@
 -- All that follows from a symbol that spans, rule by rule and item by item.
-use Rattle.std.proofs.Common.{◌≡◌, ℕ, suc, ◌<◌, ◌≤◌, length, sym, ◌∙◌, subst, ⊎_elim, arith}
+use Rattle.std.proofs.Common.{◌≡◌, ℕ, suc, ◌<◌, ◌≤◌, true, length, sym, ◌∙◌, subst, ⊎_elim, arith}
 use Rattle.std.specs.Prelude.{Result, MatchResult}
 use Rattle.std.proofs.lemmas.List.{get_or_past}
 use Rattle.std.proofs.lemmas.Bool.{cases_eq, cases_lt}
-use Rattle.language.specs.Book.{Numbered, right, size, symbol}
+use Rattle.language.specs.Book.{Grammar, Numbered, right, size, symbol}
 use Rattle.language.specs.Chart.{Held, Spans, word, finished}
 use Rattle.wording.specs.declared.pressed.Matched.{Matched}
 use Rattle.chart.specs.Boards.{Extends, Entered, NoPlace, at_place}
-use Rattle.chart.specs.Filling.{SpansHere, Filling, Filled, Overfull, RuleBegun, AllBegun, ItemAdvanced, AllAdvanced, SpanDone}
+use Rattle.chart.specs.Filling.{SpansHere, Filling, Filled, Overfull, RuleBegun, AllBegun, ItemAdvanced, AdvancedAt, AllAdvanced, SpanDone}
 use Rattle.chart.specs.Indexes.{LastBelow}
 use Rattle.chart.specs.Items.{entry}
-use Rattle.chart.specs.Marks.{Small}
+use Rattle.chart.specs.Marks.{Small, marked}
+use Rattle.chart.specs.Starts.{has_start}
 use Rattle.chart.specs.Ready.{Ready}
 use Rattle.chart.specs.Records.{grammar_of, words_with, record_of}
 use Rattle.chart.specs.declared.boards.Board.{Board}
 use Rattle.chart.specs.declared.items.Item.{Item}
 use Rattle.chart.specs.declared.records.Settled.{Settled}
+use Rattle.chart.specs.declared.starts.StartSet.{StartSet}
 use Rattle.chart.proofs.Entering.{plain_of, held_at, extends_more, held_small, span_start, bounds, item_entered, advanced_held}
 
+-- every rule above r that has X at place d is done with, and r has X there where it is a rule
+pub record Down (g : Grammar) (d X : ℕ) (Done : ℕ → Type 0) (r : ℕ) : Type 0 where
+  pub numbered : 1 ≤ r → Numbered g r
+  pub here : 1 ≤ r → symbol g r d ≡ X
+  pub done : (p : ℕ) → r < p → Numbered g p → symbol g p d ≡ X → Done p
+
+pub down_start : (g : Grammar) (d X : ℕ) (Done : ℕ → Type 0) (r : ℕ) → LastBelow g d X (suc (length g.rules)) r → Down g d X Done r
+down_start g d X Done r last = record {
+  numbered = λ l. record { low = l; high = omega (arith, last.below) };
+  here = last.here;
+  done = λ p l n e. absurd (last.none p l (omega (arith, n.high)) e);
+}
+
+pub down_next : (g : Grammar) (d X : ℕ) (Done Next : ℕ → Type 0) (r q : ℕ) → ((p : ℕ) → Numbered g p → Done p → Next p) → Down g d X Done r → 1 ≤ r → Next r → LastBelow g d (symbol g r d) r q → Down g d X Next q
+down_next g d X Done Next r q more was some here last = record {
+  numbered = λ m. record { low = m; high = omega (arith, last.below, (was.numbered some).high) };
+  here = λ m. last.here m ∙ was.here some;
+  done = λ p h n x. ⊎_elim
+      (λ same. subst Next (sym same) here)
+      (λ ne. ⊎_elim (λ k. absurd (last.none p h k (x ∙ sym (was.here some)))) (λ k. more p n (was.done p (omega arith) n x)) (cases_lt p r))
+      (cases_eq p r);
+}
+
 module _ (s : Settled) (w : Matched) where
-  -- every rule above r that begins with X is begun, and r begins with X where it is one
-  pub record BegunDown (b : Board) (X i r : ℕ) : Type 0 where
-    pub numbered : 1 ≤ r → Numbered (grammar_of s) r
-    pub first : 1 ≤ r → symbol (grammar_of s) r 0 ≡ X
-    pub begun : (p : ℕ) → r < p → Numbered (grammar_of s) p → symbol (grammar_of s) p 0 ≡ X → RuleBegun s w b p i
+  -- every rule above r that begins with X is begun
+  abbrev pub BegunDown : Board → ℕ → ℕ → ℕ → Type 0
+  BegunDown b X i = Down (grammar_of s) 0 X (λ p. RuleBegun s w b p i)
+
+  -- every rule above r with X at place d is advanced past it
+  abbrev pub AdvancedDown : Board → ℕ → ℕ → StartSet → ℕ → Type 0
+  AdvancedDown b d X starts = Down (grammar_of s) d X (λ p. (i : ℕ) → has_start starts i ≡ true → marked b.marks p (suc d) i ≡ true)
 
   -- the items at the places of a word up to one are advanced
   abbrev pub AdvancedTo : Board → Board → ℕ → ℕ → ℕ → Type 0
@@ -74,26 +101,6 @@ module _ (s : Settled) (w : Matched) (ready : Ready s w) where
     advanced = λ r d j h u next. e.marks r (suc d) j (next_small r d j i h u) (done.advanced r d j h u next);
   }
 
-  pub down_start : (b : Board) (X i r : ℕ) → LastBelow (grammar_of s) X (suc (length (grammar_of s).rules)) r → BegunDown s w b X i r
-  down_start b X i r last = record {
-    numbered = λ l. record { low = l; high = omega (arith, last.below) };
-    first = last.begins;
-    begun = λ p l n e. absurd (last.none p l (omega (arith, n.high)) e);
-  }
-
-  pub down_next : (a b : Board) (X i r q : ℕ) → i ≤ s.held → BegunDown s w a X i r → 1 ≤ r → Extends a b → RuleBegun s w b r i → LastBelow (grammar_of s) (symbol (grammar_of s) r 0) r q → BegunDown s w b X i q
-  down_next a b X i r q l was some e here last = record {
-    numbered = λ m. record { low = m; high = omega (arith, last.below, (was.numbered some).high) };
-    first = λ m. last.begins m ∙ was.first some;
-    begun = λ p h n x. ⊎_elim
-        (λ same. subst (λ y. RuleBegun s w b y i) (sym same) here)
-        (λ ne. ⊎_elim (λ k. absurd (last.none p h k (x ∙ sym (was.first some)))) (λ k. begun_more p i n l e (was.begun p (omega arith) n x)) (cases_lt p r))
-        (cases_eq p r);
-  }
-
-  pub down_end : (b : Board) (X i : ℕ) → BegunDown s w b X i 0 → AllBegun s w b X i
-  down_end b X i down r n first = down.begun r n.low n first
-
   -- a rule has no symbol past its end, and no symbol is 0
   pub next_inside : (r d X : ℕ) → 1 ≤ X → symbol (grammar_of s) r d ≡ X → d < size (grammar_of s) r
   next_inside r d X low e = ⊎_elim (λ l. l) (λ l. absurd (omega (arith, get_or_past (right (grammar_of s) r) d 0 l))) (cases_lt d (size (grammar_of s) r))
@@ -133,6 +140,14 @@ module _ (s : Settled) (w : Matched) (ready : Ready s w) where
   -- where a symbol spans, all rules are begun and then all items advanced
   pub span_done : (a b c : Board) (X i : ℕ) → i ≤ s.held → Filled s w a b → AllBegun s w b X i → Filled s w b c → AllAdvanced s w c X i → Filled s w a c × SpanDone s w c X i
   span_done a b c X i l x begun y advanced = (filled_more x y, record { begun = λ r n first. begun_more r i n l y.extends (begun r n first); advanced = advanced })
+
+  -- nor is an item left where all rules are advanced
+  pub advanced_known : (b : Board) (i X : ℕ) (starts : StartSet) → Filling s w b → 1 ≤ i → i ≤ s.held → starts ≡ (record_of s i).starts → ((d : ℕ) → 1 ≤ d → d < 6 → AdvancedAt s w b X starts d) → AllAdvanced s w b X i
+  advanced_known b i X starts was some l is all r d j h u next =
+      let x = was.waiting r d j i l h u in
+      let k = bounds s w ready r d j i h in
+      let known = subst (λ (t : Item). has_start (record_of s i).starts t.start ≡ true) x.is (was.starts i some l x.place x.low x.high) in
+      all d k.some_done (omega (arith, u, (plain_of s).few_symbols r k.rule)) r j k.rule next (subst (λ (y : StartSet). has_start y j ≡ true) (sym is) known)
 
   -- nothing ends before the first word
   pub advanced_none : (b : Board) (X i : ℕ) → i ≡ 0 → AllAdvanced s w b X i

@@ -1,5 +1,5 @@
 -- A press starts from what the draft keeps.
-use Rattle.std.proofs.Common.{◌≡◌, ℕ, suc, ◌<◌, ◌≤◌, [], ◌∷◌, length, get_or, take, sym, ap, ◌∙◌, subst, ⊎_elim, arith}
+use Rattle.std.proofs.Common.{◌≡◌, ℕ, ◌<◌, ◌≤◌, [], ◌∷◌, length, get_or, take, sym, ap, ◌∙◌, subst, ⊎_elim, arith}
 use Rattle.std.proofs.lemmas.List.{length-map, length-take-le, take-append-le}
 use Rattle.std.proofs.lemmas.Bool.{cases_lt, both_ways}
 use Rattle.language.specs.Book.{size}
@@ -14,6 +14,7 @@ use Rattle.chart.specs.Items.{blank_item}
 use Rattle.chart.specs.Kept.{Kept, Recorded}
 use Rattle.chart.specs.Ready.{Ready}
 use Rattle.chart.specs.Records.{grammar_of, words_of, words_with, record_of, matching, used_of}
+use Rattle.chart.specs.Starts.{has_start}
 use Rattle.chart.specs.declared.boards.Board.{Board}
 use Rattle.chart.specs.declared.items.Item.{Item}
 use Rattle.chart.specs.declared.records.Record.{Record}
@@ -58,7 +59,7 @@ kept_ready s w b kept few = record {
   wanted = λ j Y l. let k = kept.wanted j Y l in (λ h. wanted_with s w kept.long j Y l (k.0 h), λ h. k.1 (wanted_without s w kept.long j Y l h));
 }
 
-module _ (s : Settled) (w : Matched) (old new : Board) (kept : Kept s old) (ready : Ready s w) (un : Unmarked old new (suc s.held)) where
+module _ (s : Settled) (w : Matched) (old new : Board) (kept : Kept s old) (ready : Ready s w) (un : Unmarked old new) where
   same_place : (q : ℕ) → at_place new q ≡ at_place old q
   same_place q = ap (λ xs. get_or xs q blank_item) un.chart
 
@@ -85,12 +86,13 @@ module _ (s : Settled) (w : Matched) (old new : Board) (kept : Kept s old) (read
     apart = λ p q l k e. kept.apart p q l (omega (arith, un.top)) (sym (same_place p) ∙ (e ∙ same_place q));
     column = λ q l k. absurd (omega (arith, used));
     earlier = λ q l. subst (λ (t : Item). t.end ≤ s.held) (sym (same_place q)) (kept_end s kept.long _ _ _ _ (kept.items q (omega (arith, kept.top))));
-    stands = λ r d i k l h. absurd (both_ways _ (un.none r d i k (omega arith)) h);
+    stands = λ r d i k l h. absurd (both_ways _ (un.none r d i) h);
     marks = λ q l k. absurd (omega (arith, used));
     waiting = starting_waits;
     columns = λ j q some l low high.
         let c = kept.columns j some l in
         (omega (arith, c.split.high, c.within, kept.top), ap (λ (t : Item). t.end) (same_place q) ∙ c.ends q low (omega (arith, c.split.high)));
+    starts = λ j some l q low high. ap (λ (t : Item). has_start (record_of s j).starts t.start) (same_place q) ∙ (kept.columns j some l).starts q low high;
   }
 
   -- what is settled in the end, told from what the draft kept
@@ -98,6 +100,7 @@ module _ (s : Settled) (w : Matched) (old new : Board) (kept : Kept s old) (read
   recorded_since filled settled r e done = record {
     complete = done.complete;
     split = done.split;
+    starts = done.starts;
     word = done.word;
     wanted = done.wanted;
     from = done.from;

@@ -57,12 +57,12 @@ pub record Swapped (old new : Board) (one other : ℕ) : Type 0 where
   pub second : at_place new other ≡ at_place old one
   pub others : (q : ℕ) → (q ≡ one → ⊥) → (q ≡ other → ⊥) → at_place new q ≡ at_place old q
 
--- nothing is marked that starts after fewer than so many words
-pub record Unmarked (old new : Board) (starts : ℕ) : Type 0 where
+-- nothing is marked
+pub record Unmarked (old new : Board) : Type 0 where
   pub limit : new.limit ≡ old.limit
   pub top : new.top ≡ old.top
   pub chart : new.chart.items ≡ old.chart.items
-  pub none : (r d i : ℕ) → Small r d i → i < starts → marked new.marks r d i ≡ false
+  pub none : (r d i : ℕ) → marked new.marks r d i ≡ false
 
 -- the places in use from one on are blank, and no longer in use
 pub record Cut (old new : Board) (from : ℕ) : Type 0 where

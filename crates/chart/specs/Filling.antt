@@ -8,11 +8,14 @@ use Rattle.wording.specs.declared.pressed.Matched.{Matched}
 use Rattle.chart.specs.Boards.{Extends, at_place, is_marked}
 use Rattle.chart.specs.Items.{entry}
 use Rattle.chart.specs.Marks.{Small, marked, parts_at}
+use Rattle.chart.specs.Starts.{has_start}
 use Rattle.chart.specs.Records.{grammar_of, words_with, record_of, used_of}
 use Rattle.chart.specs.declared.items.Item.{Item}
 use Rattle.chart.specs.declared.boards.Board.{Board}
 use Rattle.chart.specs.declared.marks.Parts.{Parts}
+use Rattle.chart.specs.declared.records.Record.{Record}
 use Rattle.chart.specs.declared.records.Settled.{Settled}
+use Rattle.chart.specs.declared.starts.StartSet.{StartSet}
 
 -- the item stands at one of the places from the first to before the last
 pub record Standing (b : Board) (from past : ℕ) (t : Item) : Type 0 where
@@ -20,6 +23,10 @@ pub record Standing (b : Board) (from past : ℕ) (t : Item) : Type 0 where
   pub low : from ≤ place
   pub high : place < past
   pub is : at_place b place ≡ t
+
+-- the starts of the unfinished items of a column are among those that its record names
+abbrev pub Started : Board → Record → Type 0
+Started b r = (q : ℕ) → r.from ≤ q → q < r.waiting → has_start r.starts (at_place b q).start ≡ true
 
 -- the next symbol of an unfinished item has the left corner Y
 pub record NextCorner (g : Grammar) (t : Item) (Y : ℕ) : Type 0 where
@@ -40,7 +47,7 @@ module _ (s : Settled) (w : Matched) where
   Waits b r d i j = Standing b (record_of s j).from (record_of s j).waiting (entry r d i j)
 
   -- what holds while the column is filled: all in use are items, each stands once, the new ones from where the others end,
-  -- and the marks tell which these are; those that wait are where the records say
+  -- and the marks tell which these are; those that wait are where the records say, and start where these say
   pub record Filling (b : Board) : Type 0 where
     pub begins : used_of s ≤ b.top
     pub items : (q : ℕ) → q < b.top → HeldHere (at_place b q)
@@ -51,6 +58,7 @@ module _ (s : Settled) (w : Matched) where
     pub marks : (q : ℕ) → used_of s ≤ q → q < b.top → is_marked b (at_place b q) ≡ true
     pub waiting : (r d i j : ℕ) → j ≤ s.held → Held (grammar_of s) (words_with s w) r d i j → d < size (grammar_of s) r → Waits b r d i j
     pub columns : (j q : ℕ) → 1 ≤ j → j ≤ s.held → (record_of s j).from ≤ q → q < (record_of s j).waiting → (q < used_of s) × ((at_place b q).end ≡ j)
+    pub starts : (j : ℕ) → 1 ≤ j → j ≤ s.held → Started b (record_of s j)
 
   -- one step of it
   pub record Filled (old new : Board) : Type 0 where
@@ -73,6 +81,10 @@ module _ (s : Settled) (w : Matched) where
   -- the item is advanced if its next symbol is X
   abbrev pub ItemAdvanced : Board → Item → ℕ → Type 0
   ItemAdvanced b t X = symbol (grammar_of s) t.rule t.done ≡ X → marked b.marks t.rule (suc t.done) t.start ≡ true
+
+  -- every rule with X at place d that starts after one of the starts is advanced past it
+  abbrev pub AdvancedAt : Board → ℕ → StartSet → ℕ → Type 0
+  AdvancedAt b X starts d = (r i : ℕ) → Numbered (grammar_of s) r → symbol (grammar_of s) r d ≡ X → has_start starts i ≡ true → marked b.marks r (suc d) i ≡ true
 
   -- every item that ends at word j and has X next is advanced
   abbrev pub AllAdvanced : Board → ℕ → ℕ → Type 0

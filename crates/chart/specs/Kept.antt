@@ -6,7 +6,7 @@ use Rattle.rulebook.specs.Presses.{Outnumber}
 use Rattle.rulebook.specs.Sets.{has}
 use Rattle.wording.specs.declared.pressed.Matched.{Matched}
 use Rattle.chart.specs.Boards.{at_place}
-use Rattle.chart.specs.Filling.{Standing, Complete}
+use Rattle.chart.specs.Filling.{Standing, Started, Complete}
 use Rattle.chart.specs.Indexes.{IndexOf}
 use Rattle.chart.specs.Items.{entry, blank_item}
 use Rattle.chart.specs.Records.{grammar_of, words_of, words_with, record_of, blank_record, wanted_in, past_of, used_of}
@@ -15,13 +15,14 @@ use Rattle.chart.specs.declared.boards.Board.{Board}
 use Rattle.chart.specs.declared.records.Record.{Record}
 use Rattle.chart.specs.declared.records.Settled.{Settled}
 
--- the record of word k tells its column: it begins where the one before ends, its items end at that word, and the unfinished
--- stand in front
+-- the record of word k tells its column: it begins where the one before ends, its items end at that word, the unfinished
+-- stand in front, and their starts are known
 pub record Column (g : Grammar) (b : Board) (k start : ℕ) (r : Record) : Type 0 where
   pub begins : r.from ≡ start
   pub split : SplitAt g b r.from r.waiting r.past
   pub within : r.past ≤ b.top
   pub ends : (q : ℕ) → r.from ≤ q → q < r.past → (at_place b q).end ≡ k
+  pub starts : Started b r
 
 -- the items over the words held stand column by column, each once, and no other; the records tell their words, what may start
 -- after them, and their items; all other places and records are blank
@@ -42,6 +43,7 @@ pub record Kept (s : Settled) (b : Board) : Type 0 where
 pub record Recorded (s : Settled) (w : Matched) (old new : Board) (r : Record) : Type 0 where
   pub complete : Complete s w new
   pub split : SplitAt (grammar_of s) new r.from r.waiting r.past
+  pub starts : Started new r
   pub word : r.word ≡ w
   pub wanted : (Y : ℕ) → IsTrue (has r.wanted Y) ↔ Wanted (grammar_of s) (words_with s w) (suc s.held) Y
   pub from : r.from ≡ used_of s

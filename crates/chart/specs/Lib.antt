@@ -7,7 +7,9 @@ pub mod Kept
 pub mod Marks
 pub mod Ready
 pub mod Records
+pub mod Rows
 pub mod Sifting
+pub mod Starts
 pub mod States
 pub mod Takings
 pub mod Views

@@ -12,7 +12,7 @@ use Rattle.chart.specs.declared.records.Settled.{Settled}
 
 -- the record of no word
 abbrev pub blank_record : Record
-blank_record = record { word = record { keys = record { mask = 0 } }; wanted = record { mask = 0 }; from = 0; waiting = 0; past = 0 }
+blank_record = record { word = record { keys = record { mask = 0 } }; wanted = record { mask = 0 }; starts = record { mask = 0 }; from = 0; waiting = 0; past = 0 }
 
 -- the record of a word held; words count from 1
 abbrev pub record_of : Settled → ℕ → Record

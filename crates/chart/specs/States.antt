@@ -57,8 +57,8 @@ pub record RecordIs (d : State) (k : ℕ) : Type 0 where
   pub items : (q : ℕ) → q < d.used → ((place d q).end ≡ k) ↔ (((record_at d k).from ≤ q) × (q < (record_at d k).past))
 
 -- what holds of a draft between its calls: its places are the first 60,000 of the chart, or all; those in use hold exactly the
--- items over the words held, each once, word by word, and the others are blank; each word has its record, and no other record
--- is written
+-- items over the words held, each once, word by word, and the others are blank; each word has its record, and the other
+-- records are blank
 pub record Stands (d : State) : Type 0 where
   pub few : d.held ≤ 100
   pub budget : d.budget ≡ min 60000 (length d.places)

@@ -12,7 +12,7 @@ use Rattle.chart.specs.declared.records.Settled.{Settled}
 abbrev pub recorded : Record → WordRecord
 recorded r = record { keys = r.word.keys; wanted = r.wanted; from = r.from; past = r.past }
 
--- what is seen of a draft: all but the marks, the index of the book, and where the unfinished items of a word end
+-- what is seen of a draft: all but the marks, the index of the book, and what a record tells of its unfinished items
 abbrev pub state_of : Settled → Board → State
 state_of s b = record {
   grammar = grammar_of s;

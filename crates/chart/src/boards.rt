@@ -3,6 +3,7 @@ ghost use Rattle.std.specs.Prelude.{◌≤◌, vec_len};
 
 use super::items::Item;
 use super::marks::Marks;
+use super::starts::StartSet;
 
 // The most places of a chart that are used.
 const MOST_PLACES: usize = 60000;
@@ -14,7 +15,7 @@ pub(super) struct Full;
 // The chart with the items in use in front, and which of them end at the word that is being pressed.
 #[derive(Drop)]
 pub(super) struct Board {
-    // its length is the budget, and never grows
+    // its length never changes
     pub(super) chart: Vec<Item>,
     // how many of its places may be used
     pub(super) limit: usize,
@@ -26,8 +27,9 @@ pub(super) struct Board {
 }
 
 impl Board {
-    ghost use Rattle.std.specs.Prelude.{◌≡◌, ◌-◌, ◌<◌, ◌≤◌, MatchResult, take, drop};
-    ghost use Rattle.chart.specs.Marks.{Small};
+    ghost use Rattle.std.specs.Prelude.{◌≡◌, ℕ, ◌-◌, ◌<◌, ◌≤◌, true, MatchResult, take, drop};
+    ghost use Rattle.chart.specs.Starts.{has_start};
+    ghost use Rattle.chart.specs.Marks.{Small, marked};
     ghost use Rattle.chart.specs.Boards.{Cut, Entered, Fresh, NoPlace, Swapped, Unmarked, at_place};
 
     // A chart of which no place is in use: those that may be used are blank.
@@ -72,12 +74,19 @@ impl Board {
         self.top = from;
     }
 
-    // Takes the marks off all items that start after fewer than so many words.
-    pub(super) fn unmark(&mut self, starts: u16)
-        requires { starts ≤ 100 }
-        ensures { Unmarked self.old self.new starts }
+    // Takes off all marks.
+    pub(super) fn unmark(&mut self)
+        ensures { Unmarked self.old self.new }
     {
-        self.marks.clear(starts);
+        self.marks.clear();
+    }
+
+    // Whether all items of a rule with that many symbols done and those starts are marked.
+    pub(super) fn cover(&self, rule: u16, done: u16, starts: &StartSet) -> bool
+        requires { Small rule done 0 }
+        ensures { result ≡ true → (i : ℕ) → has_start starts.now i ≡ true → marked self.now.marks rule done i ≡ true }
+    {
+        self.marks.cover(rule, done, starts)
     }
 
     // Changes over the items at two places in use.

@@ -2,13 +2,14 @@
 ghost use Rattle.std.specs.Prelude.{◌≡◌, ℕ, suc, ◌+◌, ◌<◌, ◌≤◌, true, MatchResult};
 ghost use Rattle.language.specs.Book.{Numbered, symbol as symbol_of};
 ghost use Rattle.chart.specs.Boards.{at_place};
-ghost use Rattle.chart.specs.Filling.{SpansHere, Filling, Filled, Overfull, RuleBegun, AllBegun, ItemAdvanced, AllAdvanced, SpanDone};
+ghost use Rattle.chart.specs.Filling.{SpansHere, Filling, Filled, Overfull, RuleBegun, AllBegun, ItemAdvanced, AdvancedAt, AllAdvanced, SpanDone};
 ghost use Rattle.chart.specs.Ready.{Ready};
 ghost use Rattle.chart.specs.Records.{grammar_of, record_of};
 
 use super::boards::{Board, Full};
 use super::items::Item;
 use super::presses::{Press, Span};
+use super::starts::StartSet;
 use rulebook::Book;
 
 impl Press<'_, '_> {
@@ -50,10 +51,10 @@ impl Press<'_, '_> {
         requires spans { SpansHere self.now.settled.now self.now.word span.symbol span.start }
         ensures { let s = self.now.settled.now in let w = self.now.word in MatchResult result (λ _. Filled s w board.old board.new × AllBegun s w board.new span.symbol span.start) (λ _. Overfull s w board.old board.new) }
     {
-        let mut rule = self.settled.index.last(span.symbol);
+        let mut rule = self.settled.index.last(0, span.symbol);
         while rule != 0 {
             self.begin_rule(board, rule, span)?;
-            rule = self.settled.index.before(rule);
+            rule = self.settled.index.before(0, rule);
         }
         Ok(())
     }
@@ -80,6 +81,37 @@ impl Press<'_, '_> {
         })
     }
 
+    // Whether all rules with a symbol at a place are advanced past it already, for all of some starts.
+    fn is_advanced_at(&self, board: &Board, at: u16, symbol: u16, starts: &StartSet) -> bool
+        requires ready { Ready self.now.settled.now self.now.word }
+        requires place { at < 6 }
+        requires symbol { symbol ≤ 64 }
+        ensures { result ≡ true → AdvancedAt self.now.settled.now self.now.word board.now symbol starts.now at }
+    {
+        let mut rule = self.settled.index.last(at, symbol);
+        while rule != 0 {
+            if !board.cover(rule, at + 1, starts) {
+                return false;
+            }
+            rule = self.settled.index.before(at, rule);
+        }
+        true
+    }
+
+    // The same for every place but the first.
+    fn is_advanced(&self, board: &Board, symbol: u16, starts: &StartSet) -> bool
+        requires ready { Ready self.now.settled.now self.now.word }
+        requires symbol { symbol ≤ 64 }
+        ensures { result ≡ true → (d : ℕ) → 1 ≤ d → d < 6 → AdvancedAt self.now.settled.now self.now.word board.now symbol starts.now d }
+    {
+        for at in 1..6 {
+            if !self.is_advanced_at(board, at, symbol, starts) {
+                return false;
+            }
+        }
+        true
+    }
+
     // Advances every item that waits for the symbol that spans.
     fn advance_all(&self, board: &mut Board, span: Span) -> Result<(), Full>
         requires ready { Ready self.now.settled.now self.now.word }
@@ -90,7 +122,11 @@ impl Press<'_, '_> {
         let Some(last) = span.start.checked_sub(1) else {
             return Ok(());
         };
-        let record = self.settled.records[usize::from(last)];
+        let record = &self.settled.records[usize::from(last)];
+        // In a book with many readings most spans add nothing, and this spares a look at each item that waits.
+        if self.is_advanced(board, span.symbol, &record.starts) {
+            return Ok(());
+        }
         for at in record.from..record.waiting {
             self.advance_item(board, at, span)?;
         }

@@ -11,6 +11,7 @@ mod marks;
 mod presses;
 mod records;
 mod settling;
+mod starts;
 mod wholes;
 
 pub use drafts::{Draft, LitSet};

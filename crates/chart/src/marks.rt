@@ -1,66 +1,83 @@
 // Which items stand in the column that is being filled, so that none is entered twice and no column is searched.
-ghost use Rattle.std.specs.Prelude.{◌≡◌, ℕ, ◌-◌, ◌+◌, ◌*◌, ◌<◌, ◌≤◌, false, ◌||◌, ◌==◌};
-ghost use Rattle.rulebook.specs.Sets.{has, is_symbol};
-ghost use Rattle.chart.specs.Marks.{InRules, Small, marked, is_item, parts_at};
-ghost use Rattle.language.specs.Masks.{bit};
+ghost use Rattle.std.specs.Prelude.{ℕ, ◌≤◌};
+ghost use Rattle.chart.specs.Rows.{row_at};
 
 use super::items::Item;
+use super::starts::StartSet;
 use rulebook::SymbolSet;
 
-// Rules 1 to 128 as a mask: rule r stands at bit r - 1.
+// The starts of the marked items of one rule with one number of symbols done.
 #[derive(Clone, Copy)]
-pub(super) struct RuleSet {
-    mask: u128,
+struct Row {
+    // in which press they were marked; in a later one they are marked no longer
+    press: u64,
+    starts: StartSet,
 }
 
-impl RuleSet {
-    // no rule
-    const EMPTY: RuleSet = RuleSet { mask: 0 };
-
-    fn contains(&self, rule: u16) -> bool
-        requires { InRules rule }
-        ensures { result ≡ bit self.now.mask (rule - 1) }
-    {
-        (self.mask >> (rule - 1)) % 2 == 1
-    }
-
-    // The set with one rule more.
-    fn with(&self, rule: u16) -> RuleSet
-        requires { InRules rule }
-        ensures { (r : ℕ) → InRules r → bit result.mask (r - 1) ≡ (rule == r || bit self.now.mask (r - 1)) }
-    {
-        RuleSet {
-            mask: self.mask | 1 << (rule - 1),
-        }
-    }
+impl Row {
+    // no item
+    const BLANK: Row = Row {
+        press: 0,
+        starts: StartSet::EMPTY,
+    };
 }
 
-// The rules of the items that end at the new word, a row for each start and number of symbols done.
+// The marked items, a row for each rule and number of symbols done.
 #[derive(Clone, Copy)]
 pub(super) struct Marks {
-    rows: [RuleSet; 600],
-}
-
-// The row of the items with that start and number of symbols done.
-fn row_of(item: &Item) -> usize
-    requires { Small item.now.rule item.now.done item.now.start }
-    ensures { result ≡ 6 * item.now.start + (item.now.done - 1) }
-{
-    6 * usize::from(item.start) + usize::from(item.done - 1)
+    rows: [Row; 768],
+    // counts the presses, so that no row has to be blanked
+    press: u64,
+    ghost past: { (k : ℕ) → (row_at rows k).press ≤ press },
 }
 
 impl Marks {
+    ghost use Rattle.std.specs.Prelude.{◌≡◌, ℕ, ◌-◌, ◌+◌, ◌*◌, ◌<◌, true, false, ◌||◌};
+    ghost use Rattle.chart.specs.Starts.{has_start};
+    ghost use Rattle.chart.specs.Marks.{Small, marked, is_item, starts_in};
+
     // no item
     pub(super) const NONE: Marks = Marks {
-        rows: [RuleSet::EMPTY; 600],
+        rows: [Row::BLANK; 768],
+        press: 0,
     };
+
+    // The row of the items of a rule with that many symbols done.
+    fn row_of(rule: u16, done: u16) -> usize
+        requires { Small rule done 0 }
+        ensures { result ≡ 6 * (rule - 1) + (done - 1) }
+    {
+        6 * usize::from(rule - 1) + usize::from(done - 1)
+    }
+
+    // The starts of the items of a row that are marked.
+    fn starts(&self, row: usize) -> StartSet
+        requires { row < 768 }
+        ensures { result ≡ starts_in self.now row }
+    {
+        let row = self.rows[row];
+        if row.press == self.press {
+            row.starts
+        } else {
+            StartSet::EMPTY
+        }
+    }
 
     // Whether an item is marked, whatever its end.
     pub(super) fn contains(&self, item: &Item) -> bool
         requires { Small item.now.rule item.now.done item.now.start }
         ensures { result ≡ marked self.now item.now.rule item.now.done item.now.start }
     {
-        self.rows[row_of(item)].contains(item.rule)
+        self.starts(Marks::row_of(item.rule, item.done))
+            .contains(item.start)
+    }
+
+    // Whether all items of a rule with that many symbols done and those starts are marked.
+    pub(super) fn cover(&self, rule: u16, done: u16, starts: &StartSet) -> bool
+        requires { Small rule done 0 }
+        ensures { result ≡ true → (i : ℕ) → has_start starts.now i ≡ true → marked self.now rule done i ≡ true }
+    {
+        starts.within(&self.starts(Marks::row_of(rule, done)))
     }
 
     // Marks an item.
@@ -68,16 +85,21 @@ impl Marks {
         requires { Small item.now.rule item.now.done item.now.start }
         ensures { (r d i : ℕ) → Small r d i → marked self.new r d i ≡ (is_item item.now r d i || marked self.old r d i) }
     {
-        let row = row_of(item);
-        self.rows[row] = self.rows[row].with(item.rule);
+        let row = Marks::row_of(item.rule, item.done);
+        self.rows[row] = Row {
+            press: self.press,
+            starts: self.starts(row).with(item.start),
+        };
     }
 
-    // Takes the marks off all items that start after fewer than so many words. Only these rows are written.
-    pub(super) fn clear(&mut self, starts: u16)
-        requires { starts ≤ 100 }
-        ensures { (r d i : ℕ) → Small r d i → i < starts → marked self.new r d i ≡ false }
+    // Takes off all marks: the rows of earlier presses count no longer, and are blanked only where the count is at its end.
+    pub(super) fn clear(&mut self)
+        ensures { (r d i : ℕ) → marked self.new r d i ≡ false }
     {
-        self.rows[..6 * usize::from(starts)].fill(RuleSet::EMPTY);
+        match self.press.checked_add(1) {
+            Some(press) => self.press = press,
+            None => *self = Marks::NONE,
+        }
     }
 }
 
@@ -88,6 +110,10 @@ pub(super) struct Parts {
 }
 
 impl Parts {
+    ghost use Rattle.std.specs.Prelude.{◌≡◌, ℕ, ◌<◌, ◌||◌};
+    ghost use Rattle.rulebook.specs.Sets.{has, is_symbol};
+    ghost use Rattle.chart.specs.Marks.{parts_at};
+
     // no part
     pub(super) const NONE: Parts = Parts {
         sets: [SymbolSet::EMPTY; 100],

@@ -2,6 +2,7 @@
 ghost use Rattle.std.specs.Prelude.{◌≤◌};
 
 use super::indexes::Index;
+use super::starts::StartSet;
 use rulebook::{Book, SymbolSet};
 use soundbook::SoundBook;
 use wording::Matched;
@@ -13,7 +14,9 @@ pub(super) struct Record {
     pub(super) word: Matched,
     // the symbols that may start after it
     pub(super) wanted: SymbolSet,
-    // its items: the places from the first to before the last; up to the middle one stand the unfinished ones
+    // the starts of its unfinished items
+    pub(super) starts: StartSet,
+    // its items: the places from the first to before the last; before the middle one stand the unfinished ones
     pub(super) from: usize,
     pub(super) waiting: usize,
     pub(super) past: usize,
@@ -24,6 +27,7 @@ impl Record {
     pub(super) const BLANK: Record = Record {
         word: Matched::NONE,
         wanted: SymbolSet::EMPTY,
+        starts: StartSet::EMPTY,
         from: 0,
         waiting: 0,
         past: 0,

@@ -1,5 +1,5 @@
 // A filled column is settled: what may start after its word, its unfinished items in front, and its record.
-ghost use Rattle.std.specs.Prelude.{◌≡◌, ℕ, suc, ◌<◌, MatchResult, IsTrue, ◌↔◌};
+ghost use Rattle.std.specs.Prelude.{◌≡◌, ℕ, suc, ◌<◌, ◌≤◌, true, MatchResult, IsTrue, ◌↔◌};
 ghost use Rattle.language.specs.Book.{Numbered};
 ghost use Rattle.language.specs.Chart.{Wanted};
 ghost use Rattle.rulebook.specs.Sets.{has};
@@ -8,11 +8,14 @@ ghost use Rattle.chart.specs.Ready.{Ready};
 ghost use Rattle.chart.specs.Records.{grammar_of, words_with, used_of};
 ghost use Rattle.chart.specs.Kept.{Kept, Recorded, Crowded};
 ghost use Rattle.chart.specs.Sifting.{SplitAt, Sifted};
+ghost use Rattle.chart.specs.Starts.{has_start};
+ghost use Rattle.chart.specs.Boards.{at_place};
 
 use super::boards::{Board, Full};
 use super::items::Item;
 use super::presses::Press;
 use super::records::Record;
+use super::starts::StartSet;
 use rulebook::{Book, SymbolSet};
 
 impl Press<'_, '_> {
@@ -72,6 +75,20 @@ impl Press<'_, '_> {
         waiting
     }
 
+    // The starts of the new column's items before a place.
+    fn starts(&self, board: &Board, waiting: usize) -> StartSet
+        requires ready { Ready self.now.settled.now self.now.word }
+        requires complete { Complete self.now.settled.now self.now.word board.now }
+        requires inside { waiting ≤ board.now.top }
+        ensures { (q : ℕ) → used_of self.now.settled.now ≤ q → q < waiting → has_start result (at_place board.now q).start ≡ true }
+    {
+        let mut starts = StartSet::EMPTY;
+        for at in self.settled.used()..waiting {
+            starts = starts.with(board.item(at).start);
+        }
+        starts
+    }
+
     // The record of the new word, once its column is filled.
     fn settle(&self, board: &mut Board) -> Record
         requires ready { Ready self.now.settled.now self.now.word }
@@ -83,6 +100,7 @@ impl Press<'_, '_> {
         Record {
             word: self.word,
             wanted,
+            starts: self.starts(board, waiting),
             from: self.settled.used(),
             waiting,
             past: board.top,
@@ -95,8 +113,7 @@ impl Press<'_, '_> {
         requires kept { Kept self.now.settled.now board.old }
         ensures { let s = self.now.settled.now in let w = self.now.word in MatchResult result (Recorded s w board.old board.new) (λ _. Crowded s w board.old board.new) }
     {
-        // Only the marks of starts before the new word are ever set.
-        board.unmark(self.end());
+        board.unmark();
         self.keys(board)?;
         self.follow(board)?;
         Ok(self.settle(board))

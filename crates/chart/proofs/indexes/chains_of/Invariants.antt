@@ -1,13 +1,11 @@
-use Rattle.std.proofs.Common.{◌≡◌, ◌+◌, length}
+use Rattle.std.proofs.Common.{◌≡◌, ℕ, ◌<◌, length}
 use Rattle.soundbook.specs.Sounds.{sound_meaning}
-use Rattle.chart.specs.Indexes.{ChainOf}
+use Rattle.chart.specs.Indexes.{ChainsKept, chains_in}
 use Rattle.chart.proofs.indexes.chains_of.Given as goal
 
-abbrev pub invariant-loop-place : goal.invariant-loop-place
-invariant-loop-place l =
+abbrev pub invariant-loop-at : goal.invariant-loop-at
+invariant-loop-at l =
     record {
-      end : l.place-end ≡ length (sound_meaning l.book).grammar.rules;
-      lasts_long : length l.chains.lasts ≡ 65;
-      befores_long : length l.chains.befores ≡ 129;
-      chained : ChainOf (sound_meaning l.book).grammar (l.place + 1) l.chains;
+      long : length l.chains ≡ 6;
+      kept : (d : ℕ) → d < l.at → ChainsKept (sound_meaning l.book).grammar d (chains_in l.chains d);
     }

@@ -1,10 +1,12 @@
-use Rattle.std.proofs.Common.{◌≤◌, ◌*◌, ◌≡◌, length, take, arith}
-use Rattle.std.proofs.lemmas.List.{length-take}
-use Rattle.chart.proofs.Marking.{none_marked}
+use Rattle.std.proofs.Common.{refl, arith}
+use Rattle.chart.proofs.Marking.{none_past, blank_rows, none_marked}
 use Rattle.chart.proofs.marks.Marks.clear.Goals as goal
 
-pub returns : goal.returns
-returns c =
-    let wide : length c.args.self.now.rows ≡ 600 = omega arith in
-    let long : 6 * c.args.starts ≤ length (take (6 * c.from.result) c.args.self.now.rows) = omega (arith, length-take (6 * c.from.result) c.args.self.now.rows, c.from.ensures, c.requires) in
-    none_marked c.fill.new.self _ c.args.starts _ (c.fill.ensures.after (λ y e. e)) long
+pub invariant_of-self-in-None : goal.invariant_of-self-in-None
+invariant_of-self-in-None c = record { past = none_past }
+
+pub returns-in-Some : goal.returns-in-Some
+returns-in-Some c = none_marked _ (λ k. omega (arith, c.args.self.now.past k, c.in-Some.ensures.1))
+
+pub returns-in-None : goal.returns-in-None
+returns-in-None c = blank_rows _ refl
