@@ -5,7 +5,7 @@ use Rattle.language.specs.Sound.{Sound}
 use Rattle.lines.specs.Columns.{told_fault}
 use Rattle.rulebook.specs.Sentences.{sentence_of}
 use Rattle.rulebook.specs.declared.faults.Fault.{Fault}
-use Rattle.soundbook.specs.Refusals.{Refused, CheckRefuses}
+use Rattle.soundbook.specs.Refusals.{CheckRefuses}
 use Rattle.booktext.specs.Form.{AllYes, FirstNo, questions}
 use Rattle.booktext.specs.Text.{text_meaning}
 use Rattle.booktext.specs.Written.{lines_in, text_of, Stands}
@@ -21,13 +21,9 @@ pub record Accepted (t : List ℕ) : Type 0 where
   pub long : length t ≡ 34 * lines_in (text_meaning t)
   pub sound : Sound (text_meaning t)
 
--- the first question answered no is one of the text, or else one of its book
+-- the first question answered no is one of the text, or else one of its book, and then no other refusal of the book fits
 abbrev pub TextRefused : List ℕ → Fault → Type 0
-TextRefused t f = FirstNo (questions t) f ⊎ (AllYes (questions t) × Refused (text_meaning t) f)
-
--- the same, and no other refusal of the book fits
-abbrev pub RefusedAlone : List ℕ → Fault → Type 0
-RefusedAlone t f = FirstNo (questions t) f ⊎ (AllYes (questions t) × CheckRefuses (text_meaning t) f)
+TextRefused t f = FirstNo (questions t) f ⊎ (AllYes (questions t) × CheckRefuses (text_meaning t) f)
 
 -- every key has one form, as in every make of book
 abbrev pub EachForm : Meaning → Type 0
@@ -72,14 +68,10 @@ told_with d back =
 abbrev pub told_findings : Findings → List ℕ
 told_findings d = told_with d (told_back d.same)
 
--- what is said of a text: the findings in its sound book, or that it is refused
-abbrev pub Told : List ℕ → List ℕ → Type 0
-Told t s = (Accepted t × ((d : Findings) × Found t d × (s ≡ told_findings d))) ⊎ ((f : Fault) × TextRefused t f)
-
 -- what is said of a refusal: the line of its four numbers, and its sentence
 abbrev pub ToldRefusal : Fault → List ℕ → Type 0
 ToldRefusal f s = s ≡ told_fault f ++ (sentence_of f ++ codes "\n")
 
--- what is said of a text, in full: the findings in its sound book, which is written back byte for byte, or the refusal
-abbrev pub ToldFully : List ℕ → List ℕ → Type 0
-ToldFully t s = (Accepted t × ((d : Findings) × Found t d × IsTrue d.same × (s ≡ told_findings d))) ⊎ ((f : Fault) × RefusedAlone t f × ToldRefusal f s)
+-- what is said of a text: the findings in its sound book, which is written back byte for byte, or the refusal
+abbrev pub Told : List ℕ → List ℕ → Type 0
+Told t s = (Accepted t × ((d : Findings) × Found t d × IsTrue d.same × (s ≡ told_findings d))) ⊎ ((f : Fault) × TextRefused t f × ToldRefusal f s)

@@ -1,9 +1,9 @@
 // A text is read, its book checked and written back.
-ghost use Rattle.std.specs.Prelude.{◌≡◌, ◌*◌, ◌<◌, ◌⊎◌, length, IsTrue, IfOk, IfErr, MatchResult};
+ghost use Rattle.std.specs.Prelude.{◌≡◌, ◌*◌, ◌<◌, ◌⊎◌, length, IsTrue, MatchResult};
 ghost use Rattle.soundbook.specs.Sounds.{sound_meaning};
 ghost use Rattle.booktext.specs.Text.{text_meaning};
-ghost use Rattle.booktext.specs.Written.{lines_in, Stands};
-ghost use Rattle.bookreport.specs.Findings.{symbols_in, Accepted, TextRefused, RefusedAlone, RoundTrips, CountsFound, Found, WrittenBack};
+ghost use Rattle.booktext.specs.Written.{lines_in};
+ghost use Rattle.bookreport.specs.Findings.{symbols_in, Accepted, TextRefused, RoundTrips, CountsFound, Found, WrittenBack};
 
 use booktext::{TextBook, write};
 use rulebook::{Book, Fault};
@@ -33,7 +33,7 @@ fn symbols_of<B: Book>(book: &B) -> usize
 
 // The sound book of a text, or the first question answered no: those of the text, then those of the book.
 pub fn sound_book(text: &[u8]) -> Result<SoundBook, Fault>
-    ensures { MatchResult result (λ s. Accepted text.now × (sound_meaning s ≡ text_meaning text.now)) (λ f. RefusedAlone text.now f) }
+    ensures { MatchResult result (λ s. Accepted text.now × (sound_meaning s ≡ text_meaning text.now)) (λ f. TextRefused text.now f) }
 {
     let book = TextBook::read(text)?;
     let mut place = smallest_book();
@@ -58,10 +58,8 @@ fn findings_of(book: &SoundBook, same: bool) -> Findings
 
 // What is found in a text; the space is where its book is written back.
 pub fn examine(text: &[u8], space: &mut [u8]) -> Result<Findings, Fault>
-    ensures found { MatchResult result (λ d. Accepted text.now × Found text.now d × Stands (text_meaning text.now) space.old space.new (34 * lines_in (text_meaning text.now))) (λ f. (space.new ≡ space.old) × (TextRefused text.now f ⊎ ((f ≡ Fault.SpaceShort) × Accepted text.now × (length space.old < 34 * lines_in (text_meaning text.now))))) }
+    ensures found { MatchResult result (λ d. Accepted text.now × Found text.now d × IsTrue d.same × WrittenBack text.now space.old space.new) (λ f. (space.new ≡ space.old) × (TextRefused text.now f ⊎ ((f ≡ Fault.SpaceShort) × Accepted text.now × (length space.old < 34 * lines_in (text_meaning text.now))))) }
     ensures trips { RoundTrips }
-    ensures back { IfOk result (λ d. IsTrue d.same × WrittenBack text.now space.old space.new) }
-    ensures only { IfErr result (λ f. RefusedAlone text.now f ⊎ ((f ≡ Fault.SpaceShort) × Accepted text.now × (length space.old < 34 * lines_in (text_meaning text.now)))) }
 {
     let book = sound_book(text)?;
     let len = write(&book, space)?;

@@ -1,6 +1,6 @@
 // What bookcheck says, in words that a rule writer understands.
 ghost use Rattle.std.specs.Prelude.{◌≡◌, Some, IfOk, string_bytes};
-ghost use Rattle.bookreport.specs.Findings.{told_back, told_findings, ToldRefusal, RoundTrips, Told, ToldFully};
+ghost use Rattle.bookreport.specs.Findings.{told_back, told_findings, ToldRefusal, RoundTrips, Told};
 
 use super::examination::{Findings, examine};
 use lines::fault_line;
@@ -51,7 +51,6 @@ fn refusal(heap: Global, fault: Fault) -> Result<String, AllocError>
 pub fn report_of(heap: Global, text: &[u8]) -> Result<String, AllocError>
     ensures said { IfOk result (λ s. Told text.now (string_bytes s)) }
     ensures trips { RoundTrips }
-    ensures fully { IfOk result (λ s. ToldFully text.now (string_bytes s)) }
 {
     let mut space = vec![in heap; 0u8; text.len()]?;
     match examine(text, space.as_mut_slice()) {

@@ -1,7 +1,7 @@
--- Numbers in columns: right-justified, blanks before the first figure.
+-- Numbers in columns: right-justified, blanks before the first digit.
 use Rattle.std.specs.Prelude.{◌≡◌, ℕ, zero, suc, ◌+◌, ◌-◌, ◌*◌, ◌/◌, ◌%◌, Bool, true, false, cond, ◌&&◌, List, [], ◌∷◌, ◌++◌, length, replicate, ◌==◌}
 
--- the column up to which the number is m: blank before the first figure
+-- the column up to which the number is m: blank before the first digit
 abbrev pub mark : ℕ → ℕ
 mark m = cond (m == 0) 32 (48 + m % 10)
 
@@ -22,7 +22,7 @@ same [] (b ∷ ys) = false
 same (a ∷ xs) [] = false
 same (a ∷ xs) (b ∷ ys) = a == b && same xs ys
 
--- what columns weigh as figures, a blank as nothing, after the number m
+-- the number that columns write as digits after the number m, a blank counting as 0
 abbrev pub weighed : ℕ → List ℕ → ℕ
 weighed m [] = m
 weighed m (c ∷ cs) = weighed (m * 10 + (c - 48)) cs

@@ -14,7 +14,7 @@ put xs a ys = take a xs ++ (ys ++ drop (a + length ys) xs)
 abbrev pub blank : List ℕ
 blank = replicate 4 32
 
--- the field of a number of at most four figures
+-- the field of a number of at most four digits; a blank one of any other
 unfoldable pub boxed : ℕ → List ℕ
 boxed v = cond (nat_lt v 10000) (shown 4 v) blank
 

@@ -1,12 +1,12 @@
-// Numbers in columns: right-justified, with blanks before the first figure and no leading zero.
+// Numbers in columns: right-justified, with blanks before the first digit and no leading zero.
 ghost use Rattle.std.specs.Prelude.{◌≡◌, ℕ, ◌+◌, ◌*◌, ◌/◌, ◌%◌, ◌^◌, ◌<◌, ◌≤◌, ◌↔◌, length, IsTrue, IsOk, OnOk, OnErr, MatchOption, ◌≢◌};
 ghost use Rattle.booktext.specs.Columns.{Blank, mark as mark_of, shown};
 
-// A number has more figures than there are columns.
+// A number has more digits than there are columns.
 #[derive(Clone, Copy, Debug, PartialEq, Eq)]
 pub struct TooWide;
 
-// The number up to a column that must hold a figure, after the number up to the column before it.
+// The number up to a column that must hold a digit, after the number up to the column before it.
 fn figure(before: u16, byte: u8) -> Option<u16>
     requires { before < 1000 }
     ensures { MatchOption result ((m : ℕ) → 48 + m % 10 ≢ byte) (λ m. (m / 10 ≡ before) × (48 + m % 10 ≡ byte)) }
@@ -17,7 +17,7 @@ fn figure(before: u16, byte: u8) -> Option<u16>
     }
 }
 
-// The number up to a column that may be blank before the first figure.
+// The number up to a column that may be blank before the first digit.
 fn column(before: u16, byte: u8) -> Option<u16>
     requires { before < 1000 }
     ensures { MatchOption result ((m : ℕ) → m / 10 ≡ before → mark_of m ≢ byte) (λ m. (m / 10 ≡ before) × (mark_of m ≡ byte)) }
@@ -48,7 +48,7 @@ pub(super) fn is_blank(columns: &[u8]) -> bool
     columns.iter().all(|byte| *byte == b' ')
 }
 
-// Whether so many columns hold all the figures of a number, one more than its logarithm.
+// Whether so many columns hold all the digits of a number, one more than its logarithm.
 fn fits(number: u16, columns: usize) -> bool
     ensures { IsTrue result ↔ ((1 ≤ columns) × (number < 10 ^ columns)) }
 {
@@ -56,7 +56,7 @@ fn fits(number: u16, columns: usize) -> bool
     (number.max(1).ilog10() as usize) < columns
 }
 
-// The last figure of a number.
+// The last digit of a number.
 fn last_figure(number: u16) -> u8
     ensures { result ≡ 48 + number % 10 }
 {
@@ -64,14 +64,14 @@ fn last_figure(number: u16) -> u8
     b'0' + (number % 10) as u8
 }
 
-// The column up to which the number is this: blank before the first figure.
+// The column up to which the number is this: blank before the first digit.
 fn mark(up_to: u16) -> u8
     ensures { result ≡ mark_of up_to }
 {
     if up_to == 0 { b' ' } else { last_figure(up_to) }
 }
 
-// Sets a number right-justified into the columns; one with more figures than columns is refused, and the columns stay.
+// Sets a number right-justified into the columns; one with more digits than columns is refused, and the columns stay.
 pub fn set_right(columns: &mut [u8], number: u16) -> Result<(), TooWide>
     ensures fitting { IsOk result ↔ ((1 ≤ length columns.old) × (number < 10 ^ length columns.old)) }
     ensures set { OnOk result (columns.new ≡ shown (length columns.old) number) }

@@ -9,7 +9,7 @@ use rulebook::{Book, Fault};
 use soundbook::SoundBook;
 use std::ops::Range;
 
-// The field of a number, or a blank one if the number has more than four figures.
+// The field of a number, or a blank one if the number has more than four digits.
 fn field_of(number: u16) -> [u8; 4]
     ensures { result ≡ boxed number }
 {

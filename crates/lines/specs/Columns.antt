@@ -3,7 +3,7 @@ use Rattle.std.specs.Prelude.{ℕ, ◌-◌, List, ◌++◌, length, replicate, c
 use Rattle.rulebook.specs.Fault.{number_of, layer_of, first_of, second_of}
 use Rattle.rulebook.specs.declared.faults.Fault.{Fault}
 
--- the number right-justified in so many columns; one that has more figures takes a column for each
+-- the number right-justified in so many columns; one that has more digits takes a column for each
 abbrev pub right_in : ℕ → ℕ → List ℕ
 right_in width number = replicate (width - length (decimal number)) 32 ++ decimal number
 

@@ -7,7 +7,7 @@ ghost use Rattle.lines.specs.Columns.{right_in, told_fault, told_word, told_whol
 use rulebook::Fault;
 use std::alloc::{AllocError, Global};
 
-// A number right-justified in so many columns; one that has more figures takes a column for each. This makes text of any
+// A number right-justified in so many columns; one that has more digits takes a column for each. This makes text of any
 // length, while the fields of a book's text are columns that are lent, and refuse such a number.
 pub fn right(heap: Global, number: usize, width: usize) -> Result<String, AllocError>
     ensures { IfOk result (λ s. string_bytes s ≡ right_in width number) }

@@ -26,7 +26,7 @@ min_test (suc zero) (suc zero) h k = refl
 min_test (suc zero) (suc (suc y)) h k = absurd (omega arith)
 min_test (suc (suc x)) y h k = absurd (omega arith)
 
-bit_either : (m p k : ℕ) → bit (bit_or m p) k ≡ (bit m k || bit p k)
+pub bit_either : (m p k : ℕ) → bit (bit_or m p) k ≡ (bit m k || bit p k)
 unfolding bit
 bit_either m p k = ap (λ x. eqb x 1) (bit_at_or m p k) ∙ max_test (m / 2 ^ k % 2) (p / 2 ^ k % 2) (bit_at-lt m k) (bit_at-lt p k)
 

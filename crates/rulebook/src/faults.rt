@@ -6,7 +6,7 @@ ghost use Rattle.rulebook.specs.Sentences.{mark_words, sentence_of};
 use std::error::Error;
 use std::fmt;
 
-// Lines, columns, rules, places, words, moves and bytes count from 1.
+// Lines, columns, rules, parts, places of symbols, moves and bytes count from 1, keys by symbol number from 33.
 #[derive(Clone, Copy, Debug, PartialEq, Eq, Hash)]
 pub enum Fault {
     // the text of a book

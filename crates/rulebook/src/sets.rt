@@ -2,17 +2,16 @@
 ghost use Rattle.std.specs.Prelude.{◌≡◌, ℕ, ◌≤◌, false, ◌||◌, ◌&&◌, ◌==◌, IsTrue, ◌↔◌};
 ghost use Rattle.rulebook.specs.Sets.{holds, has, is_symbol, key_number, many};
 
-use super::books::place_of;
-
-// The two questions of a mask stand apart from the set's methods, which then prove with no file of their own.
+// The two questions of a mask stand apart from the set's methods, which then prove with no file of their own. They are asked
+// at every step of a press, so they compare with a range once, and do not go through `place_of`.
 
 // Whether a mask holds a symbol.
 fn mask_holds(mask: u64, symbol: u16) -> bool
     ensures { result ≡ holds mask symbol }
 {
-    match place_of(symbol, 1, 64) {
-        Some(place) => (mask >> place) % 2 == 1,
-        None => false,
+    match symbol {
+        1..=64 => (mask >> (symbol - 1)) % 2 == 1,
+        _ => false,
     }
 }
 
@@ -21,9 +20,9 @@ fn mask_with(mask: u64, symbol: u16) -> u64
     ensures held { (c : ℕ) → holds result c ≡ (is_symbol symbol c || holds mask c) }
     ensures grows { mask ≤ result }
 {
-    match place_of(symbol, 1, 64) {
-        Some(place) => mask | 1 << place,
-        None => mask,
+    match symbol {
+        1..=64 => mask | 1 << (symbol - 1),
+        _ => mask,
     }
 }
 

@@ -2,7 +2,9 @@
 use Rattle.std.proofs.Common.{ℕ, ◌+◌, ◌<◌, ◌≤◌, length, ⊎_elim, arith}
 use mathlib.Core.Logic.{∥∥₁_elim}
 use native.Mathlib.Bridge.{le_prop}
-use Rattle.language.specs.Book.{Grammar, Meaning, Numbered, left, size, symbol}
+use Rattle.std.proofs.lemmas.Bool.{cases_lt}
+use Rattle.std.proofs.lemmas.List.{get_or_past}
+use Rattle.language.specs.Book.{Grammar, Meaning, Numbered, left, right, size, symbol}
 use Rattle.language.specs.Sound.{Sound}
 
 -- a rule has 1 to 6 symbols of the book and turns a part, and there are few of everything
@@ -26,6 +28,10 @@ first_low g p r n = p.symbol_low r 0 n (p.some_symbols r n)
 
 pub first_high : (g : Grammar) → Plain g → (r : ℕ) → Numbered g r → symbol g r 0 ≤ 64
 first_high g p r n = p.symbol_high r 0 n (p.some_symbols r n)
+
+-- and what is read at any place, which is 0 past the end
+pub place_high : (g : Grammar) → Plain g → (r d : ℕ) → Numbered g r → symbol g r d ≤ 64
+place_high g p r d n = ⊎_elim (p.symbol_high r d n) (λ l. omega (arith, get_or_past (right g r) d 0 l)) (cases_lt d (size g r))
 
 module _ (m : Meaning) (sound : ∥ Sound m ∥₁) where
   abbrev known : (x y : ℕ) → (Sound m → x ≤ y) → x ≤ y

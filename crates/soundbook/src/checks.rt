@@ -1,7 +1,7 @@
 // The check: a book of any make becomes a sound book, or the first question answered no is named.
-ghost use Rattle.std.specs.Prelude.{◌≡◌, [], ◌∷◌, codes, IfErr, MatchResult};
+ghost use Rattle.std.specs.Prelude.{◌≡◌, [], ◌∷◌, codes, MatchResult};
 ghost use Rattle.language.specs.Sound.{Sound};
-ghost use Rattle.soundbook.specs.Refusals.{Refused, CheckRefuses};
+ghost use Rattle.soundbook.specs.Refusals.{CheckRefuses};
 ghost use Rattle.soundbook.specs.Rows.{rule_of, form_of};
 ghost use Rattle.soundbook.specs.Sounds.{sound_meaning, smallest};
 
@@ -34,8 +34,7 @@ fn sound_book<B: Book>(book: &B) -> Result<SoundBook, Fault>
 
 // Fills the place with a sound book that means the same as the book read; a refused check leaves the place.
 pub fn check<B: Book>(book: &B, place: &mut SoundBook) -> Result<(), Fault>
-    ensures filled { MatchResult result (λ _. (sound_meaning place.new ≡ B.meaning book.now) × Sound (B.meaning book.now)) (λ f. (place.new ≡ place.old) × Refused (B.meaning book.now) f) }
-    ensures only { IfErr result (λ f. CheckRefuses (B.meaning book.now) f) }
+    ensures { MatchResult result (λ _. (sound_meaning place.new ≡ B.meaning book.now) × Sound (B.meaning book.now)) (λ f. (place.new ≡ place.old) × CheckRefuses (B.meaning book.now) f) }
 {
     *place = sound_book(book)?;
     Ok(())

@@ -56,7 +56,7 @@ module _ (t : List ℕ) (at from past : ℕ) (next : NextWord t at from past) wh
   no_word h = ⊎_elim (λ l. absurd (omega (arith, bytes_long l.within, l.some, l.within))) (λ e. e.0) next.word
 
   pub refused_some : {f : Fault} → WordRefused from (bytes_in t from past) f → 1 ≤ length (bytes_in t from past)
-  refused_some (WordRefused.byte k h fits not) = omega arith
+  refused_some (WordRefused.byte k m) = omega (arith, m.inside)
   refused_some (WordRefused.long fits long) = ⊎_elim (λ l. omega (arith, l.1)) (λ l. omega (arith, l.1)) long
 
   module _ (ws : List Placed) (was : WordsBefore t at ws) where

@@ -43,9 +43,9 @@ module _ (t : List ℕ) where
   AllFit = (i : ℕ) → i < length t → ByteFits (get_or t 0 0) (get_or t i 0)
 
   refused_one : (from : ℕ) (f h : Fault) → WordRefused from t f → WordRefused from t h → f ≡ h
-  refused_one from f h (WordRefused.byte k l fits not) (WordRefused.byte k' l' fits' not') = ap (λ n. WordByte (from + n + 1)) (neither_lower k k' (λ b. not (fits' k b)) (λ b. not' (fits k' b)))
-  refused_one from f h (WordRefused.byte k l fits not) (WordRefused.long all long) = absurd (not (all k l))
-  refused_one from f h (WordRefused.long all long) (WordRefused.byte k l fits not) = absurd (not (all k l))
+  refused_one from f h (WordRefused.byte k m) (WordRefused.byte k' m') = ap (λ n. WordByte (from + n + 1)) (neither_lower k k' (λ b. m.unfit (m'.before k b)) (λ b. m'.unfit (m.before k' b)))
+  refused_one from f h (WordRefused.byte k m) (WordRefused.long all long) = absurd (m.unfit (all k m.inside))
+  refused_one from f h (WordRefused.long all long) (WordRefused.byte k m) = absurd (m.unfit (all k m.inside))
   refused_one from f h (WordRefused.long all long) (WordRefused.long all' long') = refl
 
   letter_digit : (b : ℕ) → Letter b → Digit b → ⊥
@@ -64,7 +64,7 @@ module _ (t : List ℕ) where
   shown_short End h = ⊎_elim (λ n. omega (arith, n.1, ap length h)) (λ n. omega (arith, n.1, ap length h))
 
   apart : (from : ℕ) (p : Piece) (f : Fault) → Shows t p → WordRefused from t f → ⊥
-  apart from p f h (WordRefused.byte k l fits not) = not (shown_fits p h k l)
+  apart from p f h (WordRefused.byte k m) = m.unfit (shown_fits p h k m.inside)
   apart from p f h (WordRefused.long all long) = shown_short p h long
 
   pub word_is : WordIs t

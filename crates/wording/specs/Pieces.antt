@@ -14,18 +14,18 @@ bytes_of (Name b) = b.now
 bytes_of (Figure b v) = b.now
 bytes_of End = []
 
--- one of the figures 0 to 9
+-- one of the digits 0 to 9
 pub record Digit (b : ℕ) : Type 0 where
   pub low : 48 ≤ b
   pub high : b ≤ 57
 
--- 1 to 4 figures
+-- 1 to 4 digits
 pub record Figures (s : List ℕ) : Type 0 where
   pub some : 1 ≤ length s
   pub few : length s ≤ 4
   pub digits : (i : ℕ) → i < length s → Digit (slice_index s i)
 
--- the number that figures write after the number n
+-- the number that digits write after the number n
 abbrev pub written_after : ℕ → List ℕ → ℕ
 written_after n [] = n
 written_after n (b ∷ bs) = written_after (n * 10 + (b - 48)) bs
@@ -36,7 +36,7 @@ Shows s (Name b) = (b.now ≡ s) × Lettered 1 s
 Shows s (Figure b v) = (b.now ≡ s) × Figures s × (v ≡ written_after 0 s)
 Shows s End = s ≡ []
 
--- a byte of a word fits the first: all letters and hyphens, or else all figures
+-- a byte of a word fits the first: after a letter or hyphen it is one too, after any other byte a digit
 pub data ByteFits (first b : ℕ) : Type 0 where
   letters : Letter first → Letter b → ByteFits first b
   figures : (Letter first → ⊥) → Digit b → ByteFits first b
@@ -53,7 +53,7 @@ TooLong s = (Letter (slice_index s 0) × (24 < length s)) ⊎ ((Letter (slice_in
 
 -- the first question answered no, of the word s that begins after so many bytes; refusals count bytes from 1
 pub data WordRefused (from : ℕ) (s : List ℕ) : Fault → Type 0 where
-  byte : (k : ℕ) → k < length s → ((i : ℕ) → i < k → ByteFits (slice_index s 0) (slice_index s i)) → (ByteFits (slice_index s 0) (slice_index s k) → ⊥) → WordRefused from s (WordByte (from + k + 1))
+  byte : (k : ℕ) → IsMisfit (slice_index s 0) s k → WordRefused from s (WordByte (from + k + 1))
   long : ((i : ℕ) → i < length s → ByteFits (slice_index s 0) (slice_index s i)) → TooLong s → WordRefused from s (WordLength (from + 1))
 
 -- the first word at a place or past it is taken as this piece, and ends before past

@@ -9,7 +9,7 @@ use soundbook::is_letter;
 // The most bytes of a name.
 const LONGEST_NAME: usize = 24;
 
-// The most figures of a number.
+// The most digits of a figure.
 const LONGEST_FIGURE: usize = 4;
 
 // Whether a byte fits the first byte of its word.
@@ -30,12 +30,12 @@ fn misfit(first: u8, word: &[u8]) -> Option<usize>
     word.iter().position(|byte| !byte_fits(first, *byte))
 }
 
-// The number that figures write.
+// The number that the digits of a figure write.
 fn value_of(figures: &[u8]) -> u16
     requires { Figures figures.now }
     ensures { result ≡ written_after 0 figures.now }
 {
-    // A loop, and no fold: that a value fits rests on how many figures came before, which no closure sees.
+    // A loop, and no fold: that a value fits rests on how many digits came before, which no closure sees.
     let mut value = 0;
     for byte in figures {
         value = value * 10 + u16::from(*byte - b'0');

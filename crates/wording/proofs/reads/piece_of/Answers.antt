@@ -7,8 +7,7 @@ use Rattle.wording.proofs.reads.piece_of.Goals.{in_default-2-via-then-is_letter+
 
 pub returns-in-Some-misfit : goal.returns-in-Some-misfit
 returns-in-Some-misfit c =
-    let misfit = subst (λ b. IsMisfit b c.args.word.now c.in-Some-misfit.at) (c.in-Some.ensures.item.3.1 0) c.in-Some-misfit.ensures in
-    WordRefused.byte c.in-Some-misfit.at misfit.inside misfit.before misfit.unfit
+    WordRefused.byte c.in-Some-misfit.at (subst (λ b. IsMisfit b c.args.word.now c.in-Some-misfit.at) (c.in-Some.ensures.item.3.1 0) c.in-Some-misfit.ensures)
 
 pub returns-in_default-2 : goal.returns-in_default-2
 returns-in_default-2 c =
