@@ -1,34 +1,28 @@
 -- One call on a draft over a chart that was lent: it stays one, and the call keeps the law.
-use Rattle.std.proofs.Common.{◌≡◌, ℕ, suc, ◌+◌, ◌-◌, ◌*◌, ◌≤◌, ◌↔◌, Bool, true, false, IsTrue, min, List, [], ◌∷◌, ◌++◌, map, length, get_or, take, drop, refl, sym, ap, ◌∙◌, subst, inl, inr, arith, length-append}
-use Rattle.std.proofs.Math.Option.{some}
-use Rattle.std.proofs.lemmas.List.{take-set, map_more, take_at}
+use Rattle.std.proofs.Common.{◌≡◌, ℕ, ◌-◌, ◌≤◌, ◌⊎◌, ◌↔◌, Bool, true, false, IsTrue, min, List, [], ◌∷◌, ◌++◌, map, length, get_or, take, refl, sym, ap, ◌∙◌, subst, inl, inr, arith}
+use Rattle.std.proofs.lemmas.List.{take-set, map_more}
 use Rattle.language.specs.Book.{Grammar, Meaning}
 use Rattle.language.specs.Sound.{Sound}
 use Rattle.language.specs.Words.{Word}
-use Rattle.language.specs.Readings.{Item}
+use Rattle.language.specs.Readings.{Item, Programme}
 use Rattle.language.specs.Chart.{HeldItem, Whole}
 use Rattle.language.specs.Drafts.{MatchesLit, Lit}
-use Rattle.language.specs.Machine.{steps, initial}
-use Rattle.language.specs.Moves.{moves, below}
-use Rattle.language.specs.Order.{First}
 use Rattle.language.proofs.Chart.Theorem.{chart_theorem}
-use Rattle.language.proofs.Order.First.{first_theorem}
 use Rattle.language.proofs.Members.{all_among}
 use Rattle.language.proofs.Pigeonhole.{no_more}
 use Rattle.rulebook.specs.Presses.{Outnumber, PressRefused, full, dark, crowded, PressTaken}
 use Rattle.rulebook.specs.Sets.{has}
 use Rattle.rulebook.specs.declared.faults.Fault.{Fault}
-use Rattle.rulebook.specs.declared.faults.Fault.TheVariants.{DraftFull, DarkWord, ChartFull}
 use Rattle.chart.specs.Calls.{Pressed, NotPressed, RubbedOut, NotRubbedOut, LitIs}
 use Rattle.chart.specs.States.{State, Stands, WordRecord, words, no_word, before}
 use Rattle.chart.specs.declared.drafts.LitSet.{LitSet}
-use Rattle.reading.specs.Written.{ReadingWritten, ReadingRefused, not_whole, short, moves_of, rules_of}
+use Rattle.reading.specs.Written.{ReadingWritten, ReadingRefused}
 use Rattle.reading.specs.declared.readings.Written.{Written}
 use Rattle.dialogue.specs.declared.calls.Call.{Call}
 use Rattle.dialogue.specs.declared.calls.Call.TheVariants.{Press, RubOut, Lit as AskLit, Whole as AskWhole, Reading}
 use Rattle.dialogue.specs.declared.calls.Answer.{Answer}
 use Rattle.dialogue.specs.declared.calls.Answer.TheVariants.{Items, Keys, Yes, Moves, Refused}
-use Rattle.dialogue.specs.Law.{Moment, Matches, Fit, PressLaw, RubOutLaw, LitLaw, WholeLaw, FirstWritten, ReadingLaw, CallLaw}
+use Rattle.dialogue.specs.Law.{Moment, Matches, Fit, WordTaken, WordNotTaken, PressLaw, RubOutLaw, LitLaw, WholeLaw, ReadingLaw, CallLaw}
 use Rattle.dialogue.specs.Chain.{Answered, Answers, Made}
 use Rattle.chart.proofs.Pressing.{held_long}
 use Rattle.dialogue.proofs.Lending.{moment_of, DraftOver, items_over, over_less, over_more}
@@ -46,15 +40,10 @@ yes_given b f a e r = let z : Yes b ≡ Refused f = sym e ∙ r in cc
 moves_given : (w : Written) (f : Fault) (a : Answer) → a ≡ Moves w → a ≡ Refused f → ⊥
 moves_given w f a e r = let z : Moves w ≡ Refused f = sym e ∙ r in cc
 
--- and one refusal is no other
-pub not_dark : (n k : ℕ) (a : Answer) → a ≡ Refused (ChartFull n) → a ≡ Refused (DarkWord k) → ⊥
-not_dark n k a e r = let z : Refused (ChartFull n) ≡ Refused (DarkWord k) = sym e ∙ r in cc
-
--- lists that are equal with one more element each are equal without it
-front_same : {A : Type 0} (xs ys : List A) (x y : A) → xs ++ (x ∷ []) ≡ ys ++ (y ∷ []) → xs ≡ ys
-front_same xs ys x y e =
-    let long : length xs ≡ length ys = omega (arith, ap length e, length-append xs (x ∷ []), length-append ys (y ∷ [])) in
-    sym (take_at xs (x ∷ []) (length ys) long) ∙ (ap (take (length ys)) e ∙ take_at ys (y ∷ []) (length ys) refl)
+-- a list without elements is empty
+no_elements : {A : Type 0} (xs : List A) → length xs ≡ 0 → xs ≡ []
+no_elements [] none = refl
+no_elements (x ∷ xs) none = absurd (omega (arith, none))
 
 -- the word of a record, and the last word held
 abbrev held : WordRecord → Word
@@ -69,11 +58,6 @@ words_less d stands one =
     ap (λ n. map held (take n d.records)) (omega (arith, one))
     ∙ (map_more held d.records (d.held - 1) no_word (omega (arith, one, stands.few, stands.many))
     ∙ ap (λ rs. map held rs ++ (last_word d ∷ [])) (sym (take-set d.records (d.held - 1) no_word)))
-
--- an answer that is not yes is no
-not_true : (b : Bool) → (IsTrue b → ⊥) → b ≡ false
-not_true true none = absurd (none refl)
-not_true false none = refl
 
 module _ (m : Meaning) (sound : Sound m) (lent : List Item) where
   abbrev g : Grammar
@@ -94,35 +78,18 @@ module _ (m : Meaning) (sound : Sound m) (lent : List Item) where
   not_both ws fit o =
       omega (arith, fit.few, o.more, no_more o.items fit.items o.apart (λ t a. (fit.over.exact t).1 (((chart_theorem m sound ws).items t.rule t.done t.start t.end).0 (all_among (HeldItem g ws) o.items t o.held a))))
 
-  -- a press, refused
-  press_refused : (old new : Moment) (w : Word) (a : Answer) (f : Fault) → PressRefused g places old.words w f → a ≡ Refused f → new.strip ≡ old.strip → PressLaw g places old w a new
-  press_refused old new w a _ (full l) is same = record {
-    full = λ _. is;
-    dark = λ h. absurd (omega (arith, l, h));
-    taken = λ h _ _. absurd (omega (arith, l, h));
-    crowded = λ h _ _. absurd (omega (arith, l, h));
-    accepted = λ k e. absurd (items_taken k _ a e is);
-    matched = λ r. let z : Refused (DraftFull (length old.words)) ≡ Refused (ChartFull (length old.words)) = sym is ∙ r in cc;
-    strip = same;
+  -- what holds of a word that is taken, and why one is refused, said of programmes
+  word_taken : (ws : List Word) (w : Word) → PressTaken g places ws w → WordTaken g places ws w
+  word_taken ws w p = record {
+    room = p.room;
+    matches = matches_of ws w p.matches;
+    fits = record { items = p.items; over = items_over m sound (ws ++ (w ∷ [])) p.items p.exact; few = p.fits };
   }
-  press_refused old new w a _ (dark l none) is same = record {
-    full = λ h. absurd (omega (arith, l, h));
-    dark = λ _. (λ _ x. none (lit_of old.words w x), λ _. is);
-    taken = λ _ x _. absurd (none (lit_of old.words w x));
-    crowded = λ _ x _. absurd (none (lit_of old.words w x));
-    accepted = λ k e. absurd (items_taken k _ a e is);
-    matched = λ r. absurd (not_dark _ _ a r is);
-    strip = same;
-  }
-  press_refused old new w a _ (crowded l lit more) is same = record {
-    full = λ h. absurd (omega (arith, l, h));
-    dark = λ _. (λ r. absurd (not_dark _ _ a is r), λ none. absurd (none (matches_of old.words w lit)));
-    taken = λ _ _ fit. absurd (not_both (old.words ++ (w ∷ [])) fit more);
-    crowded = λ _ _ _. is;
-    accepted = λ k e. absurd (items_taken k _ a e is);
-    matched = λ _. matches_of old.words w lit;
-    strip = same;
-  }
+
+  word_refused : (ws : List Word) (w : Word) (f : Fault) → PressRefused g places ws w f → WordNotTaken g places ws w f
+  word_refused ws w _ (full l) = WordNotTaken.full l
+  word_refused ws w _ (dark l none) = WordNotTaken.dark l (λ x. none (lit_of ws w x))
+  word_refused ws w _ (crowded l lit more) = WordNotTaken.crowded l (matches_of ws w lit) (λ fit. not_both (ws ++ (w ∷ [])) fit more)
 
   -- of any call: before it the draft is one over the lent chart, and after it the draft stands
   module _ (d e : State) (s t : List ℕ) (a : Answer) (is_over : DraftOver g lent d) (now : Stands e) where
@@ -148,19 +115,14 @@ module _ (m : Meaning) (sound : Sound m) (lent : List Item) where
 
     -- press
     press_law : (w : Word) → t ≡ s → Answered Items (Pressed d e w) (NotPressed d e w) a → PressLaw g places old w a new
-    press_law w same (inl (k, p, is)) =
-        let taken : PressTaken g places ws w = same_book (λ g n. PressTaken g n ws w) p.taken in
-        let fit : Fit g places (ws ++ (w ∷ [])) = record { items = taken.items; over = items_over m sound (ws ++ (w ∷ [])) taken.items taken.exact; few = taken.fits } in
-        record {
-          full = λ h. absurd (omega (arith, h, taken.room));
-          dark = λ _. (λ r. absurd (items_taken k _ a is r), λ none. absurd (none (matches_of ws w taken.matches)));
-          taken = λ _ _ _. (is ∙ ap Items p.answer, p.words);
-          crowded = λ _ _ none. absurd (none fit);
-          accepted = λ _ _. (taken.room, matches_of ws w taken.matches, fit);
-          matched = λ r. absurd (items_taken k _ a is r);
-          strip = same;
-        }
-    press_law w same (inr (f, p, is)) = press_refused old new w a f (same_book (λ g n. PressRefused g n ws w f) p.refused) is same
+    press_law w same (inl (k, p, is)) = record {
+      answer = inl (word_taken ws w (same_book (λ g n. PressTaken g n ws w) p.taken), is ∙ ap Items p.answer, p.words);
+      strip = same;
+    }
+    press_law w same (inr (f, p, is)) = record {
+      answer = inr (f, word_refused ws w f (same_book (λ g n. PressRefused g n ws w f) p.refused), is);
+      strip = same;
+    }
 
     press_is_over : (w : Word) → Answered Items (Pressed d e w) (NotPressed d e w) a → DraftOver g lent e
     press_is_over w (inl (k, p, is)) = over_more m sound lent e d now is_over.stands p.before is_over
@@ -169,13 +131,11 @@ module _ (m : Meaning) (sound : Sound m) (lent : List Item) where
     -- rub out
     rub_law : t ≡ s → Answered Items (RubbedOut d e) (NotRubbedOut d e) a → RubOutLaw old a new
     rub_law same (inl (k, p, is)) = record {
-      none = λ empty. absurd (omega (arith, p.some, held_long d is_over.stands, ap length empty));
-      some = λ vs w all. (is ∙ ap Items p.answer, ap words p.before ∙ sym (front_same vs (words (before d)) w (last_word d) (sym all ∙ words_less d is_over.stands p.some)));
+      answer = inl (last_word d, words_less d is_over.stands p.some ∙ ap (λ d'. words d' ++ (last_word d ∷ [])) (sym p.before), is ∙ ap Items p.answer);
       strip = same;
     }
     rub_law same (inr (f, p, is)) = record {
-      none = λ _. is ∙ ap Refused p.fault;
-      some = λ vs w all. absurd (omega (arith, p.none, held_long d is_over.stands, ap length all, length-append vs (w ∷ [])));
+      answer = inr (no_elements ws (omega (arith, p.none, held_long d is_over.stands)), is ∙ ap Refused p.fault);
       strip = same;
     }
 
@@ -197,62 +157,26 @@ module _ (m : Meaning) (sound : Sound m) (lent : List Item) where
         }
 
     -- whole
+    whole_answer : (b : Bool) → IsTrue b ↔ Whole g ws → a ≡ Yes b → (Programme g ws × (a ≡ Yes true)) ⊎ ((Programme g ws → ⊥) × (a ≡ Yes false))
+    whole_answer true whole is = inl ((chart_theorem m sound ws).whole.0 (whole.0 refl), is)
+    whole_answer false whole is = inr (λ all. let z : false ≡ true = whole.1 ((chart_theorem m sound ws).whole.1 all) in cc, is)
+
     whole_law : (b : Bool) → e ≡ d → t ≡ s → IsTrue b ↔ Whole d.grammar ws → a ≡ Yes b → WholeLaw g old a new
-    whole_law b p q whole is =
-        let here : IsTrue b ↔ Whole g ws = subst (λ g. IsTrue b ↔ Whole g ws) is_over.grammar whole in
-        record {
-          yes = λ all. is ∙ ap Yes (here.1 ((chart_theorem m sound ws).whole.1 all));
-          no = λ none. is ∙ ap Yes (not_true b (λ y. none ((chart_theorem m sound ws).whole.0 (here.0 y))));
-          same = same_moment p q;
-        }
-
-    -- reading: there is only one first reading of the words, so all have its moves
-    module _ (first other : First g g.start ws) where
-      same_reading : (first.reads.reading.by ≡ other.reads.reading.by) × (first.reads.reading.children ≡ other.reads.reading.children)
-      same_reading = (first_theorem m sound g.start ws).unique first other
-
-      same_moves : moves_of first ≡ moves_of other
-      same_moves = ap (λ r. moves r first.reads.reading.children) same_reading.0 ∙ ap (moves other.reads.reading.by) same_reading.1
-
-      same_rules : rules_of first ≡ rules_of other
-      same_rules = ap (λ ks. suc (below ks)) same_reading.1
-
-    first_written : (w : Written) → e ≡ d → (r : ReadingWritten g ws s t w) (x : First g g.start ws) → FirstWritten g old x w new
-    first_written w p r x = record {
-      strip = ap (λ d. moment_of d t) p ∙ ap (moment_of d) (r.strip ∙ ap (λ ns. ns ++ drop (length ns) s) (same_moves r.first x));
-      many = r.many ∙ ap length (same_moves r.first x);
-      exact = r.exact ∙ ap (λ k. 2 * k + length ws) (same_rules r.first x);
-      deep = λ k z run. r.deep k z (subst (λ ns. steps g (some (initial g ws)) (take k ns) ≡ some z) (sym (same_moves r.first x)) run);
-      not_deeper = omega (arith, r.not_deeper, same_rules r.first x);
+    whole_law b p q whole is = record {
+      answer = whole_answer b (subst (λ g. IsTrue b ↔ Whole g ws) is_over.grammar whole) is;
+      same = same_moment p q;
     }
 
-    reading_refused : (f : Fault) → a ≡ Refused f → ReadingRefused g ws (length s) f → ReadingLaw g old a new
-    reading_refused _ is (not_whole none) = record {
-      not_whole = λ _. is;
-      short = λ x _. absurd (none x.reads);
-      written = λ x _. absurd (none x.reads);
-      programme = λ w e. absurd (moves_given w _ a e is);
-      exists = (first_theorem m sound g.start ws).exists;
-    }
-    reading_refused _ is (short x l) = record {
-      not_whole = λ none. absurd (none x.reads);
-      short = λ _ _. is;
-      written = λ y h. absurd (omega (arith, l, h, ap length (same_moves x y)));
-      programme = λ w e. absurd (moves_given w _ a e is);
-      exists = (first_theorem m sound g.start ws).exists;
-    }
-
+    -- reading
     reading_law : e ≡ d → Answered Moves (ReadingWritten d.grammar ws s t) (λ f. ReadingRefused d.grammar ws (length s) f × (t ≡ s)) a → ReadingLaw g old a new
-    reading_law p (inl (w, r, is)) =
-        let here : ReadingWritten g ws s t w = subst (λ g. ReadingWritten g ws s t w) is_over.grammar r in
-        record {
-          not_whole = λ none. absurd (none here.first.reads);
-          short = λ x l. absurd (omega (arith, l, here.fits, ap length (same_moves here.first x)));
-          written = λ x _. (w, is, first_written w p here x);
-          programme = λ _ _. here.first.reads;
-          exists = λ _. here.first;
-        }
-    reading_law p (inr (f, r, is)) = reading_refused f is (subst (λ g. ReadingRefused g ws (length s) f) is_over.grammar r.0)
+    reading_law p (inl (w, r, is)) = record {
+      answer = inl (w, subst (λ g. ReadingWritten g ws s t w) is_over.grammar r, is);
+      same = ap (λ d. moment_of d t) p;
+    }
+    reading_law p (inr (f, r, is)) = record {
+      answer = inr (f, subst (λ g. ReadingRefused g ws (length s) f) is_over.grammar r.0, is);
+      same = ap (λ d. moment_of d t) p;
+    }
 
     -- a refused call changes nothing
     refused_same : {A : Type 0} (gives : A → Answer) (taken : A → Type 0) (refused : Fault → Type 0) → ((x : A) (f : Fault) → a ≡ gives x → a ≡ Refused f → ⊥) → ((f : Fault) → refused f → new ≡ old)

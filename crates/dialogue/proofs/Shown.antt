@@ -2,7 +2,6 @@
 use Rattle.std.proofs.Common.{◌≡◌, ℕ, zero, suc, ◌+◌, ◌<◌, ◌≤◌, min, List, [], ◌∷◌, ◌++◌, length, get_or, take, refl, sym, ap, ◌∙◌, subst, ⊎_elim, arith}
 use Rattle.std.proofs.Math.Dec.{eqb_refl}
 use Rattle.std.proofs.Math.Seq.{take-length}
-use Rattle.std.proofs.lemmas.Bool.{cases_lt}
 use Rattle.std.proofs.lemmas.List.{length-map, length-take-le, map_more, take-map}
 use Rattle.language.specs.Book.{Grammar, Meaning}
 use Rattle.language.specs.Sound.{Sound}
@@ -10,24 +9,39 @@ use Rattle.language.specs.Words.{Word, only, Begins}
 use Rattle.language.specs.Readings.{Item, Reading, yield, Programme}
 use Rattle.language.proofs.Chart.Turned.{turned_theorem}
 use Rattle.language.proofs.Words.{begins_take}
-use Rattle.rulebook.specs.declared.faults.Fault.TheVariants.{DraftFull, DarkWord}
+use Rattle.rulebook.specs.declared.faults.Fault.{Fault}
+use Rattle.rulebook.specs.declared.faults.Fault.TheVariants.{DarkWord}
 use Rattle.dialogue.specs.declared.calls.Call.{Call}
 use Rattle.dialogue.specs.declared.calls.Call.TheVariants.{Press}
 use Rattle.dialogue.specs.declared.calls.Answer.{Answer}
 use Rattle.dialogue.specs.declared.calls.Answer.TheVariants.{Items, Refused}
-use Rattle.dialogue.specs.Law.{Moment, MayFollow, Matches, Fit, PressLaw, CallLaw, Law, call_at, answer_at}
+use Rattle.dialogue.specs.Law.{Moment, MayFollow, Matches, Fit, WordTaken, WordNotTaken, full, dark, crowded, PressLaw, CallLaw, Law, call_at, answer_at}
 use Rattle.dialogue.specs.Theorem.{presses, just, KeyedWhole, LawShows, LawTheorem}
-use Rattle.dialogue.proofs.Answering.{items_taken, not_dark}
-
-not_full : (n k : ℕ) (a : Answer) → a ≡ Refused (DraftFull n) → a ≡ Refused (DarkWord k) → ⊥
-not_full n k a e r = let z : Refused (DraftFull n) ≡ Refused (DarkWord k) = sym e ∙ r in cc
+use Rattle.dialogue.proofs.Answering.{items_taken}
 
 -- a word that matches a key that may follow is not refused as dark
+reason_lit : (g : Grammar) (n : ℕ) (ws : List Word) (w : Word) (f : Fault) (held : ℕ) → WordNotTaken g n ws w f → Matches g ws w → Refused f ≡ Refused (DarkWord held) → ⊥
+reason_lit g n ws w _ held (full l) lit is = cc
+reason_lit g n ws w _ held (dark l none) lit is = none lit
+reason_lit g n ws w _ held (crowded l m none) lit is = cc
+
 press_lit : (g : Grammar) (n : ℕ) (old new : Moment) (w : Word) (a : Answer) (held : ℕ) → PressLaw g n old w a new → Matches g old.words w → a ≡ Refused (DarkWord held) → ⊥
-press_lit g n old new w a held law lit dark = ⊎_elim
-    (λ l. not_dark _ held a (law.crowded l lit (λ fit. items_taken _ _ a (law.taken l lit fit).0 dark)) dark)
-    (λ l. not_full _ held a (law.full l) dark)
-    (cases_lt (length old.words) 100)
+press_lit g n old new w a held law lit is = ⊎_elim
+    (λ x. items_taken new.used (DarkWord held) a x.1 is)
+    (λ x. reason_lit g n old.words w x.0 held x.1 lit (sym x.2 ∙ is))
+    law.answer
+
+-- a word for which there is room, that matches and fits, is taken, since none of the reasons holds
+reason_room : (g : Grammar) (n : ℕ) (ws : List Word) (w : Word) (f : Fault) → WordNotTaken g n ws w f → WordTaken g n ws w → ⊥
+reason_room g n ws w _ (full l) t = omega (arith, l, t.room)
+reason_room g n ws w _ (dark l none) t = none t.matches
+reason_room g n ws w _ (crowded l m none) t = none t.fits
+
+press_taken : (g : Grammar) (n : ℕ) (old new : Moment) (w : Word) (a : Answer) → PressLaw g n old w a new → WordTaken g n old.words w → (a ≡ Items new.used) × (new.words ≡ old.words ++ (w ∷ []))
+press_taken g n old new w a law t = ⊎_elim
+    (λ x. (x.1, x.2))
+    (λ x. absurd (reason_room g n old.words w x.0 x.1 t))
+    law.answer
 
 -- the call of a number, where it is known which
 call_is : (g : Grammar) (n : ℕ) (old new : Moment) (c : Call Word) (w : Word) (a : Answer) → CallLaw g n old c a new → c ≡ Press w → PressLaw g n old w a new
@@ -81,10 +95,11 @@ module _ (m : Meaning) (sound : Sound m) where
       pressed_next = call_is g (min 60000 (length lent)) (law.moment k) (law.moment (suc k)) (call_at (presses keys) k) (only (at_key k)) (answer_at answers k) (law.call k (omega (arith, l, length-map keys (λ c. Press (only c))))) (pressed_at keys k l)
 
       taken_next : (answer_at answers k ≡ Items (law.moment (suc k)).used) × ((law.moment (suc k)).words ≡ (law.moment k).words ++ (only (at_key k) ∷ []))
-      taken_next = pressed_next.taken
-          (omega (arith, l, few, ap length held, length-map (take k keys) only, length-take-le k keys (omega (arith, l))))
-          (record { key = at_key k; follows = lit_next; matches = eqb_refl (at_key k) })
-          (subst (Fit g (min 60000 (length lent))) behind (room (k + 1) (omega (arith, l))))
+      taken_next = press_taken g (min 60000 (length lent)) (law.moment k) (law.moment (suc k)) (only (at_key k)) (answer_at answers k) pressed_next (record {
+        room = omega (arith, l, few, ap length held, length-map (take k keys) only, length-take-le k keys (omega (arith, l)));
+        matches = record { key = at_key k; follows = lit_next; matches = eqb_refl (at_key k) };
+        fits = subst (Fit g (min 60000 (length lent))) behind (room (k + 1) (omega (arith, l)));
+      })
 
     held_after : (k : ℕ) → k ≤ length keys → (law.moment k).words ≡ just (take k keys)
     held_after zero l = law.first.0

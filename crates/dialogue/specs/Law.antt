@@ -1,18 +1,15 @@
 -- The law of a draft: what is seen at each moment of a run of calls, what each call answers, and what it leaves.
-use Rattle.std.specs.Prelude.{◌≡◌, ℕ, suc, ◌+◌, ◌*◌, ◌<◌, ◌≤◌, true, false, T, ◌↔◌, IsTrue, min, List, [], ◌∷◌, ◌++◌, length, take, drop, slice_index_or}
-use Rattle.std.proofs.Math.Option.{some}
+use Rattle.std.specs.Prelude.{◌≡◌, ℕ, suc, ◌<◌, ◌≤◌, true, false, T, ◌⊎◌, ◌↔◌, IsTrue, min, List, [], ◌∷◌, ◌++◌, length, take, drop, slice_index_or}
 use Rattle.language.specs.Book.{Grammar}
 use Rattle.language.specs.Words.{Word, only}
 use Rattle.language.specs.Readings.{Item, Begun, Used, Programme}
 use Rattle.language.specs.Columns.{Among, Apart}
-use Rattle.language.specs.Machine.{State, steps, initial}
-use Rattle.language.specs.Order.{First}
 use Rattle.rulebook.specs.Sets.{has, many}
 use Rattle.rulebook.specs.declared.faults.Fault.{Fault}
-use Rattle.rulebook.specs.declared.faults.Fault.TheVariants.{DraftFull, DarkWord, ChartFull, NothingHeld, NotWhole, StripShort}
+use Rattle.rulebook.specs.declared.faults.Fault.TheVariants.{DraftFull, DarkWord, ChartFull, NothingHeld}
 use Rattle.chart.specs.Items.{blank_told}
 use Rattle.chart.specs.declared.drafts.LitSet.{LitSet}
-use Rattle.reading.specs.Written.{moves_of, rules_of}
+use Rattle.reading.specs.Written.{ReadingWritten, ReadingRefused}
 use Rattle.reading.specs.declared.readings.Written.{Written}
 use Rattle.dialogue.specs.declared.calls.Call.{Call}
 use Rattle.dialogue.specs.declared.calls.Call.TheVariants.{Press, RubOut, Lit, Whole, Reading}
@@ -64,25 +61,28 @@ pub record Seen (g : Grammar) (lent : List Item) (n : ℕ) (m : Moment) : Type 0
   pub past : drop n m.places ≡ drop n lent
   pub long : length m.places ≡ length lent
 
--- A press of a word, from one moment to the next.
+-- a word is taken after those held, into a chart of n places: fewer than 100 are held, it matches a key that may follow, and the
+-- items, this word held too, fit
+pub record WordTaken (g : Grammar) (n : ℕ) (ws : List Word) (w : Word) : Type 0 where
+  pub room : length ws < 100
+  pub matches : Matches g ws w
+  pub fits : Fit g n (ws ++ (w ∷ []))
+
+-- or it is refused for the first of these that does not hold
+pub data WordNotTaken (g : Grammar) (n : ℕ) (ws : List Word) (w : Word) : Fault → Type 0 where
+  full : 100 ≤ length ws → WordNotTaken g n ws w (DraftFull (length ws))
+  dark : length ws < 100 → (Matches g ws w → ⊥) → WordNotTaken g n ws w (DarkWord (length ws))
+  crowded : length ws < 100 → Matches g ws w → (Fit g n (ws ++ (w ∷ [])) → ⊥) → WordNotTaken g n ws w (ChartFull (length ws))
+
+-- A press of a word, from one moment to the next: it is taken, and then it is the last word held, and the answer is how many
+-- items stand; or it is refused.
 pub record PressLaw (g : Grammar) (n : ℕ) (old : Moment) (w : Word) (a : Answer) (new : Moment) : Type 0 where
-  -- with 100 words held it is refused
-  pub full : 100 ≤ length old.words → a ≡ Refused (DraftFull (length old.words))
-  -- with fewer it is refused as dark exactly when it matches no key that may follow
-  pub dark : length old.words < 100 → (a ≡ Refused (DarkWord (length old.words))) ↔ (Matches g old.words w → ⊥)
-  -- else it is taken if the items, this word held too, fit, and then it is the last word held and the answer is how many stand
-  pub taken : length old.words < 100 → Matches g old.words w → Fit g n (old.words ++ (w ∷ [])) → (a ≡ Items new.used) × (new.words ≡ old.words ++ (w ∷ []))
-  -- and refused for want of places if they do not
-  pub crowded : length old.words < 100 → Matches g old.words w → (Fit g n (old.words ++ (w ∷ [])) → ⊥) → a ≡ Refused (ChartFull (length old.words))
-  -- so what is taken had room, matched, and fits; and what is refused for want of places matched
-  pub accepted : (k : ℕ) → a ≡ Items k → (length old.words < 100) × Matches g old.words w × Fit g n (old.words ++ (w ∷ []))
-  pub matched : a ≡ Refused (ChartFull (length old.words)) → Matches g old.words w
+  pub answer : (WordTaken g n old.words w × (a ≡ Items new.used) × (new.words ≡ old.words ++ (w ∷ []))) ⊎ ((f : Fault) × WordNotTaken g n old.words w f × (a ≡ Refused f))
   pub strip : new.strip ≡ old.strip
 
--- Rub out: refused when no word is held; else the last word is gone, and the answer is how many items stand.
+-- Rub out: the last word is gone, and the answer is how many items stand; or no word is held, and it is refused.
 pub record RubOutLaw (old : Moment) (a : Answer) (new : Moment) : Type 0 where
-  pub none : old.words ≡ [] → a ≡ Refused (NothingHeld 0)
-  pub some : (ws : List Word) (w : Word) → old.words ≡ ws ++ (w ∷ []) → (a ≡ Items new.used) × (new.words ≡ ws)
+  pub answer : ((w : Word) × (old.words ≡ new.words ++ (w ∷ [])) × (a ≡ Items new.used)) ⊎ ((old.words ≡ []) × (a ≡ Refused (NothingHeld 0)))
   pub strip : new.strip ≡ old.strip
 
 -- Lit: the keys that may follow, and how many they are; nothing changes.
@@ -93,30 +93,17 @@ pub record LitLaw (g : Grammar) (old : Moment) (a : Answer) (new : Moment) : Typ
   pub count : lit.count ≡ many lit.keys
   pub same : new ≡ old
 
--- Whole: whether the words held are a programme; nothing changes.
+-- Whole: the words held are a programme, or they are none; nothing changes.
 pub record WholeLaw (g : Grammar) (old : Moment) (a : Answer) (new : Moment) : Type 0 where
-  pub yes : Programme g old.words → a ≡ Yes true
-  pub no : (Programme g old.words → ⊥) → a ≡ Yes false
+  pub answer : (Programme g old.words × (a ≡ Yes true)) ⊎ ((Programme g old.words → ⊥) × (a ≡ Yes false))
   pub same : new ≡ old
 
--- The moves of the first reading of the words are written to the front of the strip, and nothing else changes. The answer gives
--- their number, 2m + n for m rules over n words, and a depth from the most symbols that the second stack ever holds to 1 + 6m.
-pub record FirstWritten (g : Grammar) (old : Moment) (t : First g g.start old.words) (w : Written) (new : Moment) : Type 0 where
-  pub strip : new ≡ record old { strip = moves_of t ++ drop (length (moves_of t)) old.strip }
-  pub many : w.moves ≡ length (moves_of t)
-  pub exact : w.moves ≡ 2 * rules_of t + length old.words
-  pub deep : (k : ℕ) (s : State) → steps g (some (initial g old.words)) (take k (moves_of t)) ≡ some s → length s.second ≤ w.depth
-  pub not_deeper : w.depth ≤ 1 + 6 * rules_of t
-
--- Reading: refused when the words held are no programme, and when the strip is too short.
+-- Reading: the moves of the first reading of the words held are written to the front of the strip, and the answer gives their
+-- number, 2m + n for m rules over n words, and a depth, at most 1 + 6m: replay accepts them with that much room and a place for
+-- each rule. Or it is refused, since the words are no programme or the strip is too short. Nothing but the strip changes.
 pub record ReadingLaw (g : Grammar) (old : Moment) (a : Answer) (new : Moment) : Type 0 where
-  pub not_whole : (Programme g old.words → ⊥) → a ≡ Refused (NotWhole (length old.words))
-  pub short : (t : First g g.start old.words) → length old.strip < length (moves_of t) → a ≡ Refused (StripShort (length old.words))
-  pub written : (t : First g g.start old.words) → length (moves_of t) ≤ length old.strip → (w : Written) × (a ≡ Moves w) × FirstWritten g old t w new
-  -- so moves are answered of a programme only
-  pub programme : (w : Written) → a ≡ Moves w → Programme g old.words
-  -- and a programme has a first reading
-  pub exists : Programme g old.words → First g g.start old.words
+  pub answer : ((w : Written) × ReadingWritten g old.words old.strip new.strip w × (a ≡ Moves w)) ⊎ ((f : Fault) × ReadingRefused g old.words (length old.strip) f × (a ≡ Refused f))
+  pub same : new ≡ record old { strip = new.strip }
 
 -- what each call answers, and what it leaves
 abbrev pub CallLaw : Grammar → ℕ → Moment → Call Word → Answer → Moment → Type 0

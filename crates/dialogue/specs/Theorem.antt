@@ -1,4 +1,4 @@
--- The law used: a lit key is taken or there is no room, and the law is not empty.
+-- What follows from the law alone: a lit key is never refused as dark, and a programme that fits is keyed in whole.
 use Rattle.std.specs.Prelude.{◌≡◌, ℕ, suc, ◌<◌, ◌≤◌, T, min, List, length, map, take, slice_index}
 use Rattle.language.specs.Book.{Grammar, Meaning}
 use Rattle.language.specs.Sound.{Sound}
@@ -25,7 +25,7 @@ pub record KeyedWhole (g : Grammar) (keys : List ℕ) (answers : List Answer) (m
   pub taken : (k : ℕ) → k < length keys → answer_at answers k ≡ Items (moment (suc k)).used
   pub whole : Programme g (moment (length keys)).words
 
--- what the law says of a book
+-- what the law shows of a book
 pub record LawShows (g : Grammar) : Type 0 where
   -- in every moment a word that matches a lit key, when pressed, is not refused as dark
   pub never_dark : (lent : List Item) (strip : List ℕ) (calls : List (Call Word)) (answers : List Answer) (places : List Item) (left : List ℕ)

@@ -1,5 +1,5 @@
 -- A programme is keyed in: what is known after some of its words, and what the answers of a further word add.
-use Rattle.std.proofs.Common.{◌≡◌, ℕ, false, suc, ◌+◌, ◌*◌, ◌<◌, ◌≤◌, min, List, [], ◌∷◌, ◌++◌, map, length, get_or, take, drop, Option, Result, Ok, Err, String, string_bytes, refl, sym, ap, ◌∙◌, subst, inl, inr, arith, length-append}
+use Rattle.std.proofs.Common.{◌≡◌, ℕ, false, suc, ◌+◌, ◌*◌, ◌<◌, ◌≤◌, min, List, [], ◌∷◌, ◌++◌, map, length, get_or, take, drop, Option, Result, Ok, Err, String, string_bytes, refl, sym, ap, ◌∙◌, subst, ⊎_elim, arith, length-append}
 use Rattle.std.proofs.lemmas.List.{drop_more, get_or_read_under, length-map, length-take-le, map_more}
 use Rattle.language.specs.Book.{Grammar, Meaning}
 use Rattle.language.specs.Words.{Word}
@@ -9,15 +9,14 @@ use Rattle.rulebook.specs.declared.faults.Fault.{Fault}
 use Rattle.rulebook.specs.declared.faults.Fault.TheVariants.{Counts}
 use Rattle.wording.specs.Programmes.{nothing}
 use Rattle.wording.specs.declared.pieces.Placed.{Placed}
-use Rattle.dialogue.specs.Law.{Moment, Seen, PressLaw, LitLaw, CallLaw, call_at, answer_at}
+use Rattle.dialogue.specs.Law.{Moment, Seen, WordTaken, WordNotTaken, PressLaw, LitLaw, CallLaw, call_at, answer_at}
 use Rattle.dialogue.specs.declared.calls.Call.{Call}
 use Rattle.dialogue.specs.declared.calls.Call.TheVariants.{Press, Lit}
 use Rattle.dialogue.specs.declared.calls.Answer.{Answer}
 use Rattle.dialogue.specs.declared.calls.Answer.TheVariants.{Items, Keys, Yes, Refused}
-use Rattle.keying.specs.Keyed.{piece_word, WordLine, Taken, NotTaken, Lines, LastLine, AllKeyed, keying, KeyedRun, WordAnswered, WordSaid}
+use Rattle.keying.specs.Keyed.{piece_word, WordLine, Lines, LastLine, AllKeyed, keying, KeyedRun, WordAnswered, WordSaid}
 use Rattle.keying.proofs.Calling.{keying_many, keying_press, keying_lit}
 use Rattle.keying.proofs.Listed.{symbols, symbols_are, symbols_apart, symbols_many}
-use Rattle.keying.proofs.Pressing.{Answered, answered, same_items}
 
 -- the line of the last of the words held, by the answer of lit
 line_of : (g : Grammar) (lent : List Item) (places : ℕ) (m : Moment) (a : Answer) (new : Moment) (n : ℕ) → Seen g lent places m → places ≤ length lent → (law : LitLaw g m a new) → n ≡ length m.words → WordLine g m.words (told_word n m.used law.lit.count)
@@ -119,48 +118,38 @@ module _ (m : Meaning) (pieces : List Placed) (answers : List Answer) (run : Key
     long : length (words_to taken) ≡ taken
     long = length-map (take taken pieces) (piece_word m) ∙ length-take-le taken pieces (omega (arith, inside))
 
-    -- a word that is answered by items is taken
-    held : (k : ℕ) → pressed ≡ Items k → Taken m.grammar 8000 old.words word × (k ≡ mid.used) × (mid.words ≡ old.words ++ (word ∷ []))
-    held k is =
-        let known = press.accepted k is in
-        let then = press.taken known.0 known.1 known.2 in
-        (record { room = known.0; matches = known.1; fits = known.2 }, same_items k mid.used (sym is ∙ then.0), then.1)
-
     -- what the answers are
     pub both_answered : WordAnswered pressed lit
-    both_answered = subst (WordAnswered pressed) (sym lit_law.answer) (by (answered m.grammar 8000 old word pressed mid press))
-      where
-        by : Answered m.grammar 8000 old word pressed → WordAnswered pressed (Keys lit_law.lit)
-        by (inl (k, items)) = subst (λ a. WordAnswered a (Keys lit_law.lit)) (sym items) tt
-        by (inr (f, refused, reason)) = subst (λ a. WordAnswered a (Keys lit_law.lit)) (sym refused) tt
+    both_answered = subst (WordAnswered pressed) (sym lit_law.answer)
+        (⊎_elim
+        (λ x. subst (λ a. WordAnswered a (Keys lit_law.lit)) (sym x.1) tt)
+        (λ x. subst (λ a. WordAnswered a (Keys lit_law.lit)) (sym x.2) tt)
+        press.answer)
 
     -- behind the lines of the words so far
     module _ (s : List ℕ) (so_far : Going taken s) where
       -- a word is taken, and its line said
-      said_held : (k : ℕ) → pressed ≡ Items k → (l : List ℕ) → l ≡ told_word (taken + 1) k lit_law.lit.count → Going (taken + 1) (s ++ l)
-      said_held k is l told = record {
+      said_held : WordTaken m.grammar 8000 old.words word → mid.words ≡ old.words ++ (word ∷ []) → (l : List ℕ) → l ≡ told_word (taken + 1) mid.used lit_law.lit.count → Going (taken + 1) (s ++ l)
+      said_held fits held l told = record {
         words = ap (λ (d : Moment). d.words) after ∙ (now ∙ sym further);
         strip = ap (λ (d : Moment). d.strip) after ∙ (press.strip ∙ so_far.strip);
         lines =
             subst (λ ws. Lines m.grammar 8000 ws (s ++ l)) (sym further)
             (Lines.more (words_to taken) word s l so_far.lines
-            (subst (λ ws. Taken m.grammar 8000 ws word) so_far.words known.0)
+            (subst (λ ws. WordTaken m.grammar 8000 ws word) so_far.words fits)
             (subst (λ ws. WordLine m.grammar ws l) now
-            (subst (WordLine m.grammar mid.words) (sym (told ∙ ap (λ n. told_word (taken + 1) n lit_law.lit.count) known.1))
+            (subst (WordLine m.grammar mid.words) (sym told)
             (line_of m.grammar run.lent 8000 mid lit _ (taken + 1) (seen_at (suc (2 * taken)) (omega (arith, inside, many_calls))) (omega (arith, run.many)) lit_law many))));
       }
         where
-          known : Taken m.grammar 8000 old.words word × (k ≡ mid.used) × (mid.words ≡ old.words ++ (word ∷ []))
-          known = held k is
-
           now : mid.words ≡ words_to taken ++ (word ∷ [])
-          now = known.2 ∙ ap (λ ws. ws ++ (word ∷ [])) so_far.words
+          now = held ∙ ap (λ ws. ws ++ (word ∷ [])) so_far.words
 
           many : taken + 1 ≡ length mid.words
           many = sym (ap length now ∙ (length-append (words_to taken) (word ∷ []) ∙ ap (λ n. n + 1) long))
 
       -- or it is refused, and that is said
-      said_refused : (stop : Option Fault) (f : Fault) → NotTaken m.grammar 8000 old.words word f → AllKeyed m pieces stop (s ++ told_fault f)
+      said_refused : (stop : Option Fault) (f : Fault) → WordNotTaken m.grammar 8000 old.words word f → AllKeyed m pieces stop (s ++ told_fault f)
       said_refused stop f reason = record {
         taken = taken;
         few = omega (arith, inside);
@@ -169,28 +158,28 @@ module _ (m : Meaning) (pieces : List Placed) (answers : List Answer) (run : Key
         end = told_fault f;
         last =
             subst (λ ps. LastLine m 8000 (words_to taken) ps stop (told_fault f)) (sym (drop_more pieces taken nothing inside))
-            (LastLine.refused piece (drop (taken + 1) pieces) stop f (subst (λ ws. NotTaken m.grammar 8000 ws word f) so_far.words reason));
+            (LastLine.refused piece (drop (taken + 1) pieces) stop f (subst (λ ws. WordNotTaken m.grammar 8000 ws word f) so_far.words reason));
         said = refl;
       }
 
       -- which of both, by what is said
       module _ {A : Type 0} (r : Result (String A) Fault) (told : WordSaid (taken + 1) pressed lit r) where
-        at_items : (k : ℕ) → pressed ≡ Items k → WordSaid (taken + 1) (Items k) (Keys lit_law.lit) r
-        at_items k is = subst (λ a. WordSaid (taken + 1) (Items k) a r) lit_law.answer (subst (λ a. WordSaid (taken + 1) a lit r) is told)
+        at_items : pressed ≡ Items mid.used → WordSaid (taken + 1) (Items mid.used) (Keys lit_law.lit) r
+        at_items is = subst (λ a. WordSaid (taken + 1) (Items mid.used) a r) lit_law.answer (subst (λ a. WordSaid (taken + 1) a lit r) is told)
 
         at_fault : (f : Fault) → pressed ≡ Refused f → WordSaid (taken + 1) (Refused f) lit r
         at_fault f is = subst (λ a. WordSaid (taken + 1) a lit r) is told
 
         pub going_on : (l : String A) → r ≡ Ok l → (t : List ℕ) → s ++ string_bytes l ≡ t → Going (taken + 1) t
-        going_on l is t said = subst (Going (taken + 1)) said (by (answered m.grammar 8000 old word pressed mid press))
-          where
-            by : Answered m.grammar 8000 old word pressed → Going (taken + 1) (s ++ string_bytes l)
-            by (inl (k, items)) = said_held k items (string_bytes l) (subst (WordSaid (taken + 1) (Items k) (Keys lit_law.lit)) is (at_items k items))
-            by (inr (f, refused, reason)) = let differ : 0 ≡ 1 = ap faults (sym is ∙ at_fault f refused) in absurd (omega (arith, differ))
+        going_on l is t said = subst (Going (taken + 1)) said
+            (⊎_elim
+            (λ x. said_held x.0 x.2 (string_bytes l) (subst (WordSaid (taken + 1) (Items mid.used) (Keys lit_law.lit)) is (at_items x.1)))
+            (λ x. let differ : 0 ≡ 1 = ap faults (sym is ∙ at_fault x.0 x.2) in absurd (omega (arith, differ)))
+            press.answer)
 
         pub going_refused : (stop : Option Fault) (f : Fault) → r ≡ Err f → (t : List ℕ) → s ++ told_fault f ≡ t → AllKeyed m pieces stop t
-        going_refused stop f is t said = subst (AllKeyed m pieces stop) said (by (answered m.grammar 8000 old word pressed mid press))
-          where
-            by : Answered m.grammar 8000 old word pressed → AllKeyed m pieces stop (s ++ told_fault f)
-            by (inl (k, items)) = absurd (subst (WordSaid (taken + 1) (Items k) (Keys lit_law.lit)) is (at_items k items))
-            by (inr (h, refused, reason)) = said_refused stop f (subst (NotTaken m.grammar 8000 old.words word) (sym (ap fault_in (sym is ∙ at_fault h refused))) reason)
+        going_refused stop f is t said = subst (AllKeyed m pieces stop) said
+            (⊎_elim
+            (λ x. absurd (subst (WordSaid (taken + 1) (Items mid.used) (Keys lit_law.lit)) is (at_items x.1)))
+            (λ x. said_refused stop f (subst (WordNotTaken m.grammar 8000 old.words word) (sym (ap fault_in (sym is ∙ at_fault x.0 x.2))) x.1))
+            press.answer)

@@ -2,5 +2,4 @@ pub mod Calling
 pub mod Ending
 pub mod Going
 pub mod Listed
-pub mod Pressing
 pub mod Running

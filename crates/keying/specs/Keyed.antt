@@ -1,5 +1,5 @@
 -- What is said of a programme that is keyed in.
-use Rattle.std.specs.Prelude.{◌≡◌, ℕ, Bool, ◌<◌, ◌≤◌, ◌⊎◌, ◌↔◌, List, [], ◌∷◌, ◌++◌, map, length, take, drop, Option, Some, None, Result, Err, MatchResult, String, string_bytes, codes}
+use Rattle.std.specs.Prelude.{◌≡◌, ℕ, Bool, ◌≤◌, ◌⊎◌, ◌↔◌, List, [], ◌∷◌, ◌++◌, map, length, take, drop, Option, Some, None, Result, Err, MatchResult, String, string_bytes, codes}
 use Rattle.language.specs.Book.{Grammar, Meaning}
 use Rattle.language.specs.Sound.{Sound}
 use Rattle.language.specs.Words.{Word}
@@ -8,17 +8,16 @@ use Rattle.language.specs.Columns.{Among, Apart}
 use Rattle.language.specs.Order.{First}
 use Rattle.lines.specs.Columns.{told_fault, told_word, told_whole}
 use Rattle.rulebook.specs.declared.faults.Fault.{Fault}
-use Rattle.rulebook.specs.declared.faults.Fault.TheVariants.{DraftFull, DarkWord, ChartFull}
 use Rattle.soundbook.specs.Sounds.{sound_meaning}
 use Rattle.booktext.specs.Text.{text_meaning}
-use Rattle.bookreport.specs.Findings.{Accepted, RefusedAlone}
+use Rattle.bookreport.specs.Findings.{Accepted, TextRefused}
 use Rattle.wording.specs.Matching.{piece_matches}
 use Rattle.wording.specs.Programmes.{CutAs}
 use Rattle.wording.specs.Sets.{word_of}
 use Rattle.wording.specs.declared.pieces.Placed.{Placed}
 use Rattle.wording.specs.declared.spelled.Spelled.{Spelled}
 use Rattle.reading.specs.Written.{moves_of}
-use Rattle.dialogue.specs.Law.{MayFollow, Matches, ItemsOver, Fit, Law}
+use Rattle.dialogue.specs.Law.{MayFollow, ItemsOver, WordTaken, WordNotTaken, Law}
 use Rattle.dialogue.specs.declared.calls.Call.{Call}
 use Rattle.dialogue.specs.declared.calls.Call.TheVariants.{Press, Lit, Reading}
 use Rattle.dialogue.specs.declared.calls.Answer.{Answer}
@@ -37,28 +36,15 @@ pub record WordLine (g : Grammar) (ws : List Word) (s : List ℕ) : Type 0 where
   pub apart : Apart lit
   pub said : s ≡ told_word (length ws) (length items) (length lit)
 
--- a word is taken after those held, into a chart of so many places: fewer than 100 are held, it matches a key that may follow,
--- and the items, this word held too, fit
-pub record Taken (g : Grammar) (places : ℕ) (ws : List Word) (w : Word) : Type 0 where
-  pub room : length ws < 100
-  pub matches : Matches g ws w
-  pub fits : Fit g places (ws ++ (w ∷ []))
-
--- or it is refused for the first of these that does not hold
-pub data NotTaken (g : Grammar) (places : ℕ) (ws : List Word) (w : Word) : Fault → Type 0 where
-  full : 100 ≤ length ws → NotTaken g places ws w (DraftFull (length ws))
-  dark : length ws < 100 → (Matches g ws w → ⊥) → NotTaken g places ws w (DarkWord (length ws))
-  crowded : length ws < 100 → Matches g ws w → (Fit g places (ws ++ (w ∷ [])) → ⊥) → NotTaken g places ws w (ChartFull (length ws))
-
 -- the lines of words that are taken one after another
 pub data Lines (g : Grammar) (places : ℕ) : List Word → List ℕ → Type 0 where
   none : Lines g places [] []
-  more : (ws : List Word) (w : Word) (s l : List ℕ) → Lines g places ws s → Taken g places ws w → WordLine g (ws ++ (w ∷ [])) l → Lines g places (ws ++ (w ∷ [])) (s ++ l)
+  more : (ws : List Word) (w : Word) (s l : List ℕ) → Lines g places ws s → WordTaken g places ws w → WordLine g (ws ++ (w ∷ [])) l → Lines g places (ws ++ (w ∷ [])) (s ++ l)
 
 -- the last line, after the words taken: the next word is refused; or the text is, behind its last word; or the words are a
 -- programme, and the line tells how many moves their first reading has; or they are no programme
 pub data LastLine (m : Meaning) (places : ℕ) (ws : List Word) : List Placed → Option Fault → List ℕ → Type 0 where
-  refused : (p : Placed) (ps : List Placed) (stop : Option Fault) (f : Fault) → NotTaken m.grammar places ws (piece_word m p) f → LastLine m places ws (p ∷ ps) stop (told_fault f)
+  refused : (p : Placed) (ps : List Placed) (stop : Option Fault) (f : Fault) → WordNotTaken m.grammar places ws (piece_word m p) f → LastLine m places ws (p ∷ ps) stop (told_fault f)
   stopped : (f : Fault) → LastLine m places ws [] (Some f) (told_fault f)
   whole : (t : First m.grammar m.grammar.start ws) → LastLine m places ws [] None (told_whole (length (moves_of t)))
   short : (Programme m.grammar ws → ⊥) → LastLine m places ws [] None (codes "short\n")
@@ -82,7 +68,7 @@ pub record KeyedIn (m : Meaning) (t s : List ℕ) : Type 0 where
 
 -- what is said of a book text and a programme text: why the book is refused, or what becomes of the programme
 abbrev pub Keyed : List ℕ → List ℕ → List ℕ → Type 0
-Keyed b t s = ((f : Fault) × RefusedAlone b f × (s ≡ told_fault f)) ⊎ (Accepted b × KeyedIn (text_meaning b) t s)
+Keyed b t s = ((f : Fault) × TextRefused b f × (s ≡ told_fault f)) ⊎ (Accepted b × KeyedIn (text_meaning b) t s)
 
 -- Of the single steps:
 

@@ -1,4 +1,4 @@
--- What the draft's reading is answered, and what it leaves on the strip.
+-- What a reading of the words held answers, and what it leaves on the strip.
 use Rattle.std.specs.Prelude.{◌≡◌, ℕ, ◌+◌, ◌*◌, ◌<◌, ◌≤◌, List, [], ◌∷◌, ◌++◌, length, take, drop}
 use Rattle.std.proofs.Math.Option.{some}
 use Rattle.language.specs.Book.{Grammar}

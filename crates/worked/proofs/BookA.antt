@@ -60,6 +60,10 @@ pub one_held : Shows book_a (pressed (33 ∷ [])) one (35 ∷ [])
 unfolding tests
 one_held = shows works sound_a (pressed (33 ∷ [])) one wanted_four (35 ∷ []) refl refl
 
+pub one_short : Programme book_a (pressed (33 ∷ [])) → ⊥
+unfolding tests
+one_short = is_short works sound_a (pressed (33 ∷ [])) one wanted_four [] refl refl
+
 pub two_held : Shows book_a (pressed (33 ∷ 35 ∷ [])) two (33 ∷ 34 ∷ 36 ∷ [])
 unfolding tests
 two_held = shows works sound_a (pressed (33 ∷ 35 ∷ [])) two wanted_four (33 ∷ 34 ∷ 36 ∷ []) refl refl
@@ -71,6 +75,10 @@ two_whole = is_whole works sound_a (pressed (33 ∷ 35 ∷ [])) two wanted_four 
 pub three_held : Shows book_a (pressed (33 ∷ 35 ∷ 34 ∷ [])) three (35 ∷ [])
 unfolding tests
 three_held = shows works sound_a (pressed (33 ∷ 35 ∷ 34 ∷ [])) three wanted_four (35 ∷ []) refl refl
+
+pub three_short : Programme book_a (pressed (33 ∷ 35 ∷ 34 ∷ [])) → ⊥
+unfolding tests
+three_short = is_short works sound_a (pressed (33 ∷ 35 ∷ 34 ∷ [])) three wanted_four [] refl refl
 
 pub four_held : Shows book_a (pressed (33 ∷ 35 ∷ 34 ∷ 35 ∷ [])) four (33 ∷ 34 ∷ 36 ∷ [])
 unfolding tests

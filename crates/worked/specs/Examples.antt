@@ -31,14 +31,16 @@ pub record Examples : Type 0 where
   -- Book A, nothing held: three keys are lit, and it is not whole
   pub none_held : Shows book_a [] [] (33 ∷ 34 ∷ 36 ∷ [])
   pub none_short : Programme book_a [] → ⊥
-  -- one word: one item; then 34 is dark, whatever the places
+  -- one word: one item, not whole; then 34 is dark, whatever the places
   pub one_held : Shows book_a (pressed (33 ∷ [])) (item 3 1 0 1 ∷ []) (35 ∷ [])
+  pub one_short : Programme book_a (pressed (33 ∷ [])) → ⊥
   pub one_dark : (places : ℕ) → PressRefused book_a places (pressed (33 ∷ [])) (only 34) (DarkWord 1)
   -- two words: four items, whole
   pub two_held : Shows book_a (pressed (33 ∷ 35 ∷ [])) (item 3 1 0 1 ∷ item 3 2 0 2 ∷ item 1 1 0 2 ∷ item 2 1 0 2 ∷ []) (33 ∷ 34 ∷ 36 ∷ [])
   pub two_whole : Programme book_a (pressed (33 ∷ 35 ∷ []))
-  -- three words: five items, so two of 7 places are blank
+  -- three words: five items, so two of 7 places are blank; not whole
   pub three_held : Shows book_a (pressed (33 ∷ 35 ∷ 34 ∷ [])) (item 3 1 0 1 ∷ item 3 2 0 2 ∷ item 1 1 0 2 ∷ item 2 1 0 2 ∷ item 4 1 2 3 ∷ []) (35 ∷ [])
+  pub three_short : Programme book_a (pressed (33 ∷ 35 ∷ 34 ∷ [])) → ⊥
   -- the fourth word wants 8 places: with 7 it is refused, with 8 it is taken
   pub four_crowded : PressRefused book_a 7 (pressed (33 ∷ 35 ∷ 34 ∷ [])) (only 35) (ChartFull 3)
   pub four_taken : PressTaken book_a 8 (pressed (33 ∷ 35 ∷ 34 ∷ [])) (only 35)

@@ -14,7 +14,7 @@ pub returns : goal.returns
 returns g c =
     let m : Meaning = g.B.Book.meaning c.args.book.now in
     let lent : List Item = map told c.args.chart.items in
-    let checked : (sound_meaning c.check.new.place ≡ m) × Sound m = c.in_default.ensures.filled in
+    let checked : (sound_meaning c.check.new.place ≡ m) × Sound m = c.in_default.ensures in
     let new = c.open-draft.ensures ∙ ap (λ (b : Meaning). opened b.grammar lent) checked.0 in
     let law = law_kept m checked.1 lent _ _ _ _ _ _ new c.in_ok-answers.ensures in
     (checked.0, checked.1, subst (λ ps. Law m.grammar lent c.args.strip.now (told_calls g.W.Word.tells c.args.calls.now) c.in_ok-answers.answers.items ps c.make_all.new.strip) (sym c.into_chart.ensures) law)
