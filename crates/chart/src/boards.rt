@@ -3,7 +3,6 @@ ghost use Rattle.std.specs.Prelude.{◌≤◌, vec_len};
 
 use super::items::Item;
 use super::marks::Marks;
-use super::starts::StartSet;
 
 // The most places of a chart that are used.
 const MOST_PLACES: usize = 60000;
@@ -27,9 +26,8 @@ pub(super) struct Board {
 }
 
 impl Board {
-    ghost use Rattle.std.specs.Prelude.{◌≡◌, ℕ, ◌-◌, ◌<◌, ◌≤◌, true, MatchResult, take, drop};
-    ghost use Rattle.chart.specs.Starts.{has_start};
-    ghost use Rattle.chart.specs.Marks.{Small, marked};
+    ghost use Rattle.std.specs.Prelude.{◌≡◌, ◌-◌, ◌<◌, ◌≤◌, MatchResult, take, drop};
+    ghost use Rattle.chart.specs.Marks.{Small};
     ghost use Rattle.chart.specs.Boards.{Cut, Entered, Fresh, NoPlace, Swapped, Unmarked, at_place};
 
     // A chart of which no place is in use: those that may be used are blank.
@@ -79,14 +77,6 @@ impl Board {
         ensures { Unmarked self.old self.new }
     {
         self.marks.clear();
-    }
-
-    // Whether all items of a rule with that many symbols done and those starts are marked.
-    pub(super) fn cover(&self, rule: u16, done: u16, starts: &StartSet) -> bool
-        requires { Small rule done 0 }
-        ensures { result ≡ true → (i : ℕ) → has_start starts.now i ≡ true → marked self.now.marks rule done i ≡ true }
-    {
-        self.marks.cover(rule, done, starts)
     }
 
     // Changes over the items at two places in use.

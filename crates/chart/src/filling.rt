@@ -90,7 +90,7 @@ impl Press<'_, '_> {
     {
         let mut rule = self.settled.index.last(at, symbol);
         while rule != 0 {
-            if !board.cover(rule, at + 1, starts) {
+            if !board.marks.cover(rule, at + 1, starts) {
                 return false;
             }
             rule = self.settled.index.before(at, rule);
