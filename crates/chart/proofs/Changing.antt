@@ -3,10 +3,9 @@ use Rattle.std.proofs.Common.{◌≡◌, ℕ, suc, ◌-◌, ◌≤◌, min, List
 use Rattle.std.proofs.lemmas.List.{length-map, ext_get_or, map-set, set-set, set-get_or}
 use Rattle.std.proofs.Math.ListN.{get_or-map}
 use Rattle.std.proofs.lemmas.Bool.{cases_lt}
-use Rattle.language.specs.Book.{Grammar}
 use Rattle.language.specs.Readings.{Item as Told}
 use Rattle.soundbook.specs.declared.sounds.SoundBook.{SoundBook}
-use Rattle.rulebook.specs.Presses.{Outnumber}
+use Rattle.chart.specs.Overflow.{Outnumber}
 use Rattle.rulebook.specs.declared.faults.Fault.TheVariants.{ChartFull}
 use Rattle.wording.specs.declared.pressed.Matched.{Matched}
 use Rattle.chart.specs.Boards.{Cut, Fresh, at_place}
@@ -26,16 +25,16 @@ use Rattle.chart.proofs.Keeping.{OneMore, more_of, less_of, words_more, one_writ
 use Rattle.chart.proofs.Seen.{blanked_is, words_seen, record_seen, stands}
 
 -- states of the same numbers and lists are one
-states_alike : {g h : Grammar} {ps qs : List Told} {b c : ℕ} {rs ts : List WordRecord} {m n u v : ℕ} → g ≡ h → ps ≡ qs → b ≡ c → rs ≡ ts → m ≡ n → u ≡ v
-    → ◌≡◌ {A = State} (record { grammar = g; places = ps; budget = b; records = rs; held = m; used = u }) (record { grammar = h; places = qs; budget = c; records = ts; held = n; used = v })
-states_alike a b c d e f = λ i. record { grammar = a i; places = b i; budget = c i; records = d i; held = e i; used = f i }
+states_alike : {g h : SoundBook} {ps qs : List Told} {b c : ℕ} {rs ts : List WordRecord} {m n u v : ℕ} → g ≡ h → ps ≡ qs → b ≡ c → rs ≡ ts → m ≡ n → u ≡ v
+    → ◌≡◌ {A = State} (record { book = g; places = ps; budget = b; records = rs; held = m; used = u }) (record { book = h; places = qs; budget = c; records = ts; held = n; used = v })
+states_alike a b c d e f = λ i. record { book = a i; places = b i; budget = c i; records = d i; held = e i; used = f i }
 
 -- what is told of a place of a chart
 told_at : (xs : List Item) (q : ℕ) → get_or (map told xs) q blank_told ≡ told (get_or xs q blank_item)
 told_at xs q = get_or-map told xs q blank_item
 
 -- a new draft
-pub opened_seen : (s : Settled) (b : Board) (lent : List Item) → s.records ≡ replicate 100 blank_record → s.held ≡ 0 → Fresh lent b → state_of s b ≡ opened (grammar_of s) (map told lent)
+pub opened_seen : (s : Settled) (b : Board) (lent : List Item) → s.records ≡ replicate 100 blank_record → s.held ≡ 0 → Fresh lent b → state_of s b ≡ opened s.book.now (map told lent)
 opened_seen s b lent records held fresh = states_alike refl places (fresh.limit ∙ ap (min 60000) (sym (length-map lent told))) (ap (map recorded) records) held fresh.top
   where
     places : map told b.chart.items ≡ blanked (map told lent) 0 (min 60000 (length (map told lent)))

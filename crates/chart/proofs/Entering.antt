@@ -7,7 +7,7 @@ use Rattle.language.specs.Book.{Numbered, left, size, symbol}
 use Rattle.language.specs.Chart.{Held, HeldItem, Spans, begin, advance}
 use Rattle.language.specs.Columns.{InBounds}
 use Rattle.language.proofs.Columns.Bounds.{held_bounds, spans_within}
-use Rattle.rulebook.specs.Presses.{Outnumber}
+use Rattle.chart.specs.Overflow.{Outnumber}
 use Rattle.rulebook.specs.Sets.{has}
 use Rattle.wording.specs.declared.pressed.Matched.{Matched}
 use Rattle.chart.specs.Boards.{Appended, Entered, NoPlace, Extends, at_place, is_marked}

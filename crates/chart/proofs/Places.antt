@@ -1,9 +1,9 @@
 -- What is known of each place, said of the list of items.
-use Rattle.std.proofs.Common.{◌≡◌, ℕ, zero, suc, ◌<◌, List, [], ◌∷◌, map, length, get_or, sym, refl, ap, inl, inr, arith}
+use Rattle.std.proofs.Common.{◌≡◌, ℕ, suc, ◌<◌, List, [], ◌∷◌, map, length, get_or, sym, ap, inl, inr, arith}
 use Rattle.std.specs.List.{AllByRecursion}
 use Rattle.language.specs.Readings.{Item as Told}
 use Rattle.language.specs.Columns.{Among, Apart}
-use Rattle.language.proofs.Members.{among_map}
+use Rattle.language.proofs.Members.{among_map, among_get}
 use Rattle.chart.specs.Items.{blank_item, told}
 use Rattle.chart.specs.declared.items.Item.{Item}
 
@@ -16,13 +16,7 @@ pub all_at : (P : Told → Type 0) (xs : List Item) → ((q : ℕ) → q < lengt
 all_at P [] h = tt
 all_at P (x ∷ xs) h = (h 0 (omega arith), all_at P xs (λ q l. h (suc q) (omega arith)))
 
--- what stands at a place of a list is in it
-pub among_get : {A : Type 0} (xs : List A) (q : ℕ) (past : A) → q < length xs → Among (get_or xs q past) xs
-among_get [] q past l = absurd (omega arith)
-among_get (x ∷ xs) zero past l = inl refl
-among_get (x ∷ xs) (suc q) past l = inr (among_get xs q past (omega arith))
-
--- so is what is told of an item at a place
+-- what is told of an item at a place is in the list of what is told
 pub among_at : (xs : List Item) (q : ℕ) → q < length xs → Among (told (get_or xs q blank_item)) (map told xs)
 among_at xs q l = among_map told (get_or xs q blank_item) xs (among_get xs q blank_item l)
 

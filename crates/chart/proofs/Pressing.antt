@@ -1,31 +1,23 @@
--- Whether a word is taken, and why it is not.
-use Rattle.std.proofs.Common.{◌≡◌, ℕ, zero, suc, ◌+◌, ◌<◌, ◌≤◌, true, false, ◌&&◌, IsTrue, ◌↔◌, ◌⊎◌, length, take, sym, refl, ap, ◌∙◌, subst, inl, inr, ⊎_elim, le_refl, arith}
+-- The lit keys, and how many words are held.
+use Rattle.std.proofs.Common.{◌≡◌, ℕ, zero, suc, ◌+◌, ◌<◌, ◌≤◌, true, false, ◌&&◌, IsTrue, ◌↔◌, ◌⊎◌, length, take, sym, ap, ◌∙◌, subst, inl, inr, ⊎_elim, le_refl, arith}
 use mathlib.Core.Path.{fun_ext}
-use Rattle.std.specs.Prelude.{Result, Ok, Err, MatchResult}
-use Rattle.std.proofs.lemmas.List.{length-map, length-take, length-take-le}
-use Rattle.std.proofs.lemmas.Bool.{cases_Bool, cases_eq, cases_lt, both_ways, and_from, and_parts, le-leb, leb-true}
-use Rattle.std.proofs.lemmas.Float.{T_from_true}
+use Rattle.std.proofs.lemmas.List.{length-map, length-take-le}
+use Rattle.std.proofs.lemmas.Bool.{cases_Bool, cases_eq, cases_lt, and_from, and_parts, le-leb, leb-true}
 use Rattle.language.specs.Book.{Grammar, Key}
 use Rattle.language.specs.Words.{Word}
 use Rattle.language.specs.Chart.{Corner, Wanted, self, down, first, next}
-use Rattle.language.specs.Drafts.{Items, Lit, MatchesLit}
-use Rattle.rulebook.specs.Presses.{PressRefused}
+use Rattle.language.specs.Drafts.{Lit}
 use Rattle.rulebook.specs.Sets.{has, key_number}
-use Rattle.rulebook.specs.declared.faults.Fault.{Fault}
-use Rattle.rulebook.specs.declared.faults.Fault.TheVariants.{DraftFull, DarkWord, ChartFull}
 use Rattle.rulebook.specs.declared.sets.SymbolSet.{SymbolSet}
 use Rattle.rulebook.proofs.Holding.{holds_outside}
 use Rattle.wording.specs.declared.pressed.Matched.{Matched}
-use Rattle.chart.specs.Calls.{Pressed, NotPressed}
 use Rattle.chart.specs.Kept.{Kept}
 use Rattle.chart.specs.Records.{grammar_of, words_of, matching, wanted_in}
-use Rattle.chart.specs.States.{State, WordRecord, Stands, words, in_use}
-use Rattle.chart.specs.Takings.{Taken, NotTaken}
+use Rattle.chart.specs.States.{State, WordRecord, Stands, words}
 use Rattle.chart.specs.Views.{state_of}
 use Rattle.chart.specs.declared.boards.Board.{Board}
 use Rattle.chart.specs.declared.records.Settled.{Settled}
 use Rattle.chart.proofs.Entering.{plain_of}
-use Rattle.chart.proofs.Following.{passed_test}
 use Rattle.soundbook.proofs.Plain.{Plain}
 use Rattle.chart.proofs.Seen.{words_seen}
 use Rattle.chart.proofs.Starting.{words_held, kept_bounds}
@@ -66,14 +58,6 @@ module _ (s : Settled) (b : Board) (kept : Kept s b) (keys : SymbolSet) (is : (c
           let wanted = subst (λ ws. Wanted (grammar_of s) ws s.held c) (words_seen s b) (subst (λ k. Wanted (grammar_of s) (words (state_of s b)) k c) words_long l.wanted) in
           is c ∙ and_from _ _ ((kept.wanted s.held c (le_refl s.held)).1 wanted) (and_from _ _ (le-leb 33 c l.key.low) (le-leb c 64 (omega (arith, l.key.high, (plain_of s).few_keys))))
 
-  -- a set of keys that has one in common with them, and one that has none
-  module _ (w : Matched) (both : SymbolSet) (common : (c : ℕ) → has both c ≡ (has keys c && has w.keys c)) where
-    pub none_matches : ((c : ℕ) → has both c ≡ false) → MatchesLit (grammar_of s) (words (state_of s b)) (matching w) → ⊥
-    none_matches none m = both_ways _ (none m.key) (common m.key ∙ and_from _ _ ((lit_held m.key).1 m.lit) (passed_test _ m.matches))
-
-    pub some_matches : (c : ℕ) → has both c ≡ true → MatchesLit (grammar_of s) (words (state_of s b)) (matching w)
-    some_matches c h = let parts = and_parts (has keys c) (has w.keys c) (sym (common c) ∙ h) in record { key = c; lit = (lit_held c).0 parts.0; matches = T_from_true _ parts.1 }
-
 -- a set that is not empty holds some symbol
 some_below : (t : SymbolSet) (n : ℕ) → ((c : ℕ) × (has t c ≡ true)) ⊎ ((c : ℕ) → c < n → has t c ≡ false)
 some_below t zero = inr (λ c l. absurd (omega arith))
@@ -89,64 +73,7 @@ some_held t some = ⊎_elim (λ h. h)
 pub same_matches : (w : Matched) (v : Word) → ((c : ℕ) → has w.keys c ≡ v c) → matching w ≡ v
 same_matches w v h = fun_ext h
 
--- whether a word matches a lit key, said of the state that is seen
-module _ (s : Settled) (b : Board) (kept : Kept s b) (keys : SymbolSet) (is : (c : ℕ) → has keys c ≡ (has (wanted_in s s.held) c && key_number c)) (m : Matched) (word : SymbolSet) (same : word ≡ m.keys)
-    (both : SymbolSet) (common : (c : ℕ) → has both c ≡ (has keys c && has word c)) (v : State) (seen : state_of s b ≡ v) (w : Word) (tells : (c : ℕ) → has m.keys c ≡ w c) where
-  common_is : (c : ℕ) → has both c ≡ (has keys c && has m.keys c)
-  common_is c = common c ∙ ap (λ (x : SymbolSet). has keys c && has x c) same
-
-  pub is_dark : ((c : ℕ) → has both c ≡ false) → MatchesLit v.grammar (words v) w → ⊥
-  is_dark none h =
-      none_matches s b kept keys is m both common_is none
-      (subst (λ (d : State). MatchesLit d.grammar (words d) (matching m)) (sym seen) (subst (λ x. MatchesLit v.grammar (words v) x) (sym (same_matches m w tells)) h))
-
-  pub is_lit : (((c : ℕ) → has both c ≡ false) → ⊥) → MatchesLit v.grammar (words v) w
-  is_lit some =
-      let x = some_held both some in
-      subst (λ y. MatchesLit v.grammar (words v) y) (same_matches m w tells)
-      (subst (λ (d : State). MatchesLit d.grammar (words d) (matching m)) seen (some_matches s b kept keys is m both common_is x.0 x.1))
-
 module _ (v : State) (seen : Stands v) where
   -- as many words are held as are counted
   pub held_long : length (words v) ≡ v.held
   held_long = length-map (take v.held v.records) (λ (r : WordRecord). has r.keys) ∙ length-take-le v.held v.records (omega (arith, seen.few, seen.many))
-
-  -- 100 words are held
-  pub full_refused : (w : Word) (h : ℕ) → h ≡ v.held → 100 ≤ h → NotPressed v v w (DraftFull h)
-  full_refused w h e l = record {
-    refused = subst (λ x. PressRefused v.grammar v.budget (words v) w (DraftFull x)) (held_long ∙ sym e) (PressRefused.full (omega (arith, held_long)));
-    same = refl;
-  }
-
-  -- the word matches no lit key
-  pub dark_refused : (w : Word) (h : ℕ) → h ≡ v.held → h < 100 → (MatchesLit v.grammar (words v) w → ⊥) → NotPressed v v w (DarkWord h)
-  dark_refused w h e l dark = record {
-    refused = subst (λ x. PressRefused v.grammar v.budget (words v) w (DarkWord x)) (held_long ∙ sym e) (PressRefused.dark (omega (arith, held_long)) dark);
-    same = refl;
-  }
-
-  -- the word matches a lit key: it is taken where its items fit
-  module _ (new : State) (w : Word) (room : v.held < 100) (matches : MatchesLit v.grammar (words v) w) where
-    pub pressed : (n : ℕ) → Taken v new w n → Pressed v new w n
-    pressed n t = record {
-      taken = record {
-        room = omega (arith, held_long);
-        matches = matches;
-        items = in_use new;
-        exact = subst (λ ws. Items v.grammar ws (in_use new)) t.words (subst (λ g. Items g (words new) (in_use new)) (ap (λ (d : State). d.grammar) t.before) t.stands.items);
-        fits = omega (arith, length-take new.used new.places, t.stands.fits, t.budget);
-      };
-      words = t.words;
-      before = t.before;
-      answer = t.answer;
-    }
-
-    pub not_pressed : (f : Fault) → NotTaken v new w f → NotPressed v new w f
-    not_pressed f t = record {
-      refused = subst (PressRefused v.grammar v.budget (words v) w) (ap ChartFull held_long ∙ sym t.fault) (PressRefused.crowded (omega (arith, held_long)) matches t.more);
-      same = t.same;
-    }
-
-    pub press_cases : (r : Result ℕ Fault) → MatchResult r (Taken v new w) (NotTaken v new w) → MatchResult r (Pressed v new w) (NotPressed v new w)
-    press_cases (Ok n) t = pressed n t
-    press_cases (Err f) t = not_pressed f t

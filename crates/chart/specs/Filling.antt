@@ -2,7 +2,7 @@
 use Rattle.std.specs.Prelude.{◌≡◌, ℕ, suc, ◌<◌, ◌≤◌, true}
 use Rattle.language.specs.Book.{Grammar, Key, Numbered, left, size, symbol}
 use Rattle.language.specs.Chart.{Corner, Wanted, Held, Spans}
-use Rattle.rulebook.specs.Presses.{Outnumber}
+use Rattle.chart.specs.Overflow.{Outnumber}
 use Rattle.rulebook.specs.Sets.{has}
 use Rattle.wording.specs.declared.pressed.Matched.{Matched}
 use Rattle.chart.specs.Boards.{Extends, at_place, is_marked}

@@ -2,7 +2,7 @@
 use Rattle.std.specs.Prelude.{◌≡◌, ℕ, suc, ◌-◌, ◌<◌, ◌≤◌, length, slice_index_or, IsTrue, ◌↔◌, min}
 use Rattle.language.specs.Book.{Grammar}
 use Rattle.language.specs.Chart.{Wanted, Held}
-use Rattle.rulebook.specs.Presses.{Outnumber}
+use Rattle.chart.specs.Overflow.{Outnumber}
 use Rattle.rulebook.specs.Sets.{has}
 use Rattle.wording.specs.declared.pressed.Matched.{Matched}
 use Rattle.chart.specs.Boards.{at_place}

@@ -5,6 +5,7 @@ pub mod Indexes
 pub mod Items
 pub mod Kept
 pub mod Marks
+pub mod Overflow
 pub mod Ready
 pub mod Records
 pub mod Rows

@@ -7,6 +7,8 @@ use Rattle.language.specs.Chart.{Wanted}
 use Rattle.language.specs.Drafts.{Items}
 use Rattle.rulebook.specs.Sets.{has}
 use Rattle.rulebook.specs.declared.sets.SymbolSet.{SymbolSet}
+use Rattle.soundbook.specs.Sounds.{sound_meaning}
+use Rattle.soundbook.specs.declared.sounds.SoundBook.{SoundBook}
 use Rattle.chart.specs.Items.{blank_told}
 
 -- the record of a word: the keys that it matches, the symbols that may start after it, and its items, from one place to
@@ -17,15 +19,19 @@ pub record WordRecord : Type 0 where
   pub from : ℕ
   pub past : ℕ
 
--- the book's rules, all places of the chart, how many of them the draft may use, its records, and how many words are held and
+-- the sound book, all places of the chart, how many of them the draft may use, its records, and how many words are held and
 -- places in use
 pub record State : Type 0 where
-  pub grammar : Grammar
+  pub book : SoundBook
   pub places : List Item
   pub budget : ℕ
   pub records : List WordRecord
   pub held : ℕ
   pub used : ℕ
+
+-- the book's rules
+abbrev pub grammar : State → Grammar
+grammar d = (sound_meaning d.book).grammar
 
 -- the record of no word
 abbrev pub no_word : WordRecord
@@ -53,7 +59,7 @@ blanked ts from past = take from ts ++ (replicate (past - from) blank_told ++ dr
 
 -- the record tells what may start after word k, and where the items stand that end there
 pub record RecordIs (d : State) (k : ℕ) : Type 0 where
-  pub wanted : (Y : ℕ) → IsTrue (has (record_at d k).wanted Y) ↔ Wanted d.grammar (words d) k Y
+  pub wanted : (Y : ℕ) → IsTrue (has (record_at d k).wanted Y) ↔ Wanted (grammar d) (words d) k Y
   pub items : (q : ℕ) → q < d.used → ((place d q).end ≡ k) ↔ (((record_at d k).from ≤ q) × (q < (record_at d k).past))
 
 -- what holds of a draft between its calls: its places are the first 60,000 of the chart, or all; those in use hold exactly the
@@ -63,7 +69,7 @@ pub record Stands (d : State) : Type 0 where
   pub few : d.held ≤ 100
   pub budget : d.budget ≡ min 60000 (length d.places)
   pub fits : d.used ≤ d.budget
-  pub items : Items d.grammar (words d) (in_use d)
+  pub items : Items (grammar d) (words d) (in_use d)
   pub rising : (p q : ℕ) → p ≤ q → q < d.used → (place d p).end ≤ (place d q).end
   pub blank : (q : ℕ) → d.used ≤ q → q < d.budget → place d q ≡ blank_told
   pub many : length d.records ≡ 100
@@ -71,9 +77,9 @@ pub record Stands (d : State) : Type 0 where
   pub cleared : (k : ℕ) → d.held < k → k ≤ 100 → record_at d k ≡ no_word
 
 -- a new draft: it holds no word, its places are blank, and those past them are as they were
-abbrev pub opened : Grammar → List Item → State
-opened g ts = record {
-  grammar = g;
+abbrev pub opened : SoundBook → List Item → State
+opened b ts = record {
+  book = b;
   places = blanked ts 0 (min 60000 (length ts));
   budget = min 60000 (length ts);
   records = replicate 100 no_word;
@@ -84,7 +90,7 @@ opened g ts = record {
 -- the same without the last word, its record and its items
 abbrev pub before : State → State
 before d = record {
-  grammar = d.grammar;
+  book = d.book;
   places = blanked d.places (record_at d d.held).from d.used;
   budget = d.budget;
   records = slice_set d.records (d.held - 1) no_word;

@@ -2,7 +2,6 @@
 use Rattle.std.specs.Prelude.{map}
 use Rattle.chart.specs.Items.{told}
 pub use Rattle.chart.specs.Kept.{Kept}
-use Rattle.chart.specs.Records.{grammar_of}
 use Rattle.chart.specs.States.{State, WordRecord}
 use Rattle.chart.specs.declared.boards.Board.{Board}
 use Rattle.chart.specs.declared.records.Record.{Record}
@@ -15,7 +14,7 @@ recorded r = record { keys = r.word.keys; wanted = r.wanted; from = r.from; past
 -- what is seen of a draft: all but the marks, the index of the book, and what a record tells of its unfinished items
 abbrev pub state_of : Settled → Board → State
 state_of s b = record {
-  grammar = grammar_of s;
+  book = s.book.now;
   places = map told b.chart.items;
   budget = b.limit;
   records = map recorded s.records;

@@ -1,13 +1,11 @@
 // The draft: words are pressed and rubbed out, and the chart of the items over them is kept.
 ghost use Rattle.std.specs.Prelude.{◌≡◌, ◌<◌, map, MatchResult, IsTrue, ◌↔◌};
 ghost use Rattle.language.specs.Chart.{Whole};
-ghost use Rattle.soundbook.specs.Sounds.{sound_meaning};
-ghost use Rattle.wording.specs.Sets.{word_of};
-ghost use Rattle.chart.specs.Calls.{Pressed, NotPressed, RubbedOut, NotRubbedOut, LitIs, ColumnIs};
+ghost use Rattle.chart.specs.Calls.{RubbedOut, NotRubbedOut, LitIs, ColumnIs};
 ghost use Rattle.chart.specs.Takings.{Taken, NotTaken};
 ghost use Rattle.chart.specs.Records.{matching};
 ghost use Rattle.chart.specs.Items.{told};
-ghost use Rattle.chart.specs.States.{Stands, words, opened};
+ghost use Rattle.chart.specs.States.{Stands, grammar, words, opened};
 
 use super::boards::{Board, Full};
 use super::items::Item;
@@ -16,10 +14,7 @@ use super::records::{Record, Settled};
 use rulebook::{Fault, SymbolSet};
 use soundbook::SoundBook;
 use std::marker::Model;
-use wording::{Matched, Word};
-
-// The most words that a draft holds.
-const MOST_WORDS: u16 = 100;
+use wording::Matched;
 
 // The lit keys as a set, and how many they are.
 #[derive(Clone, Copy, Debug, PartialEq, Eq)]
@@ -50,7 +45,8 @@ impl<'b> Model for Draft<'b> {
 impl<'b> Draft<'b> {
     // A new draft, which holds no word. Its places are the first 60,000 of the chart, or all if there are fewer.
     pub fn open(book: &'b SoundBook, chart: Vec<Item>) -> Draft<'b>
-        ensures { result ≡ opened (sound_meaning book.now).grammar (map told chart.items) }
+        ensures stands { Stands result }
+        ensures opened { result ≡ opened book.now (map told chart.items) }
     {
         Draft {
             settled: Settled::of(book),
@@ -67,8 +63,8 @@ impl<'b> Draft<'b> {
         chart
     }
 
-    // Takes a word that matches a lit key, if its items fit.
-    fn take(&mut self, word: Matched) -> Result<usize, Fault>
+    // Takes a word behind those held, if its items fit.
+    pub fn take(&mut self, word: Matched) -> Result<usize, Fault>
         requires { self.old.held < 100 }
         ensures { MatchResult result (Taken self.old self.new (matching word)) (NotTaken self.old self.new (matching word)) }
     {
@@ -89,27 +85,6 @@ impl<'b> Draft<'b> {
                 Err(Fault::ChartFull { held })
             }
         }
-    }
-
-    // Adds a word behind those held, and answers how many items are in use. Refused where 100 words are held, then where the
-    // word matches no lit key, then where the items, this word held too, outnumber the draft's places.
-    pub fn press<W: Word>(&mut self, word: &W) -> Result<usize, Fault>
-        ensures stands { Stands self.new }
-        ensures cases { MatchResult result (Pressed self.old self.new (word_of (W.tells word.now))) (NotPressed self.old self.new (word_of (W.tells word.now))) }
-    {
-        let held = self.settled.held;
-        if held >= MOST_WORDS {
-            return Err(Fault::DraftFull {
-                held: usize::from(held),
-            });
-        }
-        let matched = Matched::of(word);
-        if self.settled.lit().common(&matched.keys()).is_empty() {
-            return Err(Fault::DarkWord {
-                held: usize::from(held),
-            });
-        }
-        self.take(matched)
     }
 
     // Removes the last word, and answers how many items are in use. Refused where no word is held.
@@ -141,9 +116,17 @@ impl<'b> Draft<'b> {
 
     // The book by whose rules the words are read.
     pub fn book(&self) -> &'b SoundBook
-        ensures { (sound_meaning result.now).grammar ≡ self.now.grammar }
+        ensures { result.now ≡ self.now.book }
     {
         self.settled.book
+    }
+
+    // The chart's places, as they stand.
+    pub fn places(&self) -> &[Item]
+        ensures { map told result.now ≡ self.now.places }
+    {
+        let Draft { board, .. } = self;
+        board.chart.as_slice()
     }
 
     // How many words are held.
@@ -171,7 +154,7 @@ impl<'b> Draft<'b> {
     // Whether the words held are a programme.
     pub fn whole(&self) -> bool
         ensures stands { Stands self.now }
-        ensures whole { IsTrue result ↔ Whole self.now.grammar (words self.now) }
+        ensures whole { IsTrue result ↔ Whole (grammar self.now) (words self.now) }
     {
         self.settled.is_whole(&self.board)
     }

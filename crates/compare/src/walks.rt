@@ -5,7 +5,7 @@ use super::readings::{deepest, first_reading};
 use super::recogniser::{Known, Listed, MOST_WORDS, recognise};
 use super::reports::{Kind, Report};
 use super::words::Several;
-use chart::{Draft, Item};
+use draft::{Draft, Item};
 use reading::{Written, reading, replay};
 use rulebook::{Fault, SymbolSet};
 use soundbook::SoundBook;

@@ -1,26 +1,50 @@
 -- Calls made one after another, and a further one behind them.
-use Rattle.std.proofs.Common.{◌≡◌, ℕ, ◌+◌, ◌<◌, Bool, List, [], ◌∷◌, ◌++◌, length, get_or, take, sym, subst}
-use Rattle.std.proofs.lemmas.List.{map_more}
+use Rattle.std.proofs.Common.{◌≡◌, ℕ, ◌+◌, ◌<◌, Bool, List, [], ◌∷◌, ◌++◌, length, get_or, set, take, sym, ap, ◌∙◌, subst, arith, get_or-set_same}
+use Rattle.std.proofs.Math.ListN.{get_or-map}
+use Rattle.std.proofs.lemmas.List.{length-set, map-set, map_more, set-get_or, take-set}
 use Rattle.language.specs.Words.{Word}
-use Rattle.chart.specs.States.{State}
+use Rattle.draft.specs.Law.{Shows}
 use Rattle.dialogue.specs.declared.calls.Call.{Call}
 use Rattle.dialogue.specs.declared.calls.Answer.{Answer}
-use Rattle.dialogue.specs.Calls.{told_call, told_calls}
-use Rattle.dialogue.specs.Chain.{Made, Chain, none, more}
+use Rattle.dialogue.specs.declared.calls.Exchange.{Exchange}
+use Rattle.dialogue.specs.Calls.{told_call, asked, calls_of, answers_of}
+use Rattle.dialogue.specs.Runs.{Moment, CallLaw}
 
-chain_last : (d e f : State) (s t u : List ℕ) (calls : List (Call Word)) (answers : List Answer) (c : Call Word) (a : Answer) → Chain d s calls answers e t → Made e t c a f u → Chain d s (calls ++ (c ∷ [])) (answers ++ (a ∷ [])) f u
-chain_last _ _ f _ _ u _ _ c a (none d s) made = more d f f s u u c a [] [] made (none f u)
-chain_last _ _ f _ _ u _ _ c a (more d e x s t y b o calls answers first rest) made = more d e f s t u b o (calls ++ (c ∷ [])) (answers ++ (a ∷ [])) first (chain_last e x f t y u calls answers c a rest made)
+-- calls made one after another
+pub data Chain : Moment → List (Call Word) → List Answer → Moment → Type 0 where
+  none : (m : Moment) → Chain m [] [] m
+  more : (m n o : Moment) (c : Call Word) (a : Answer) (calls : List (Call Word)) (answers : List Answer) → CallLaw m c a n → Shows n.draft → Chain n calls answers o → Chain m (c ∷ calls) (a ∷ answers) o
 
--- no call is made yet
-pub chain_first : (d : State) (s : List ℕ) (said : List Answer) → said ≡ [] → Chain d s [] said d s
-chain_first d s said is = subst (λ said. Chain d s [] said d s) (sym is) (none d s)
+pub chain_last : (m n o : Moment) (calls : List (Call Word)) (answers : List Answer) (c : Call Word) (a : Answer) → Chain m calls answers n → CallLaw n c a o → Shows o.draft → Chain m (calls ++ (c ∷ [])) (answers ++ (a ∷ [])) o
+chain_last _ _ o _ _ c a (none m) law shows = more m o o c a [] [] law shows (none o)
+chain_last _ _ o _ _ c a (more m n e d b calls answers one seen rest) law shows = more m n o d b (calls ++ (c ∷ [])) (answers ++ (a ∷ [])) one seen (chain_last n e o calls answers c a rest law shows)
 
--- the next of a list of calls is made and answered
-pub chain_more : {W : Type 0} (tells : W → ℕ → Bool) (calls : List (Call W)) (k : ℕ) (c : Call W) (d e f : State) (s t u : List ℕ) (answers said : List Answer) (a : Answer)
-    → k < length calls → c ≡ get_or calls k c → Chain d s (told_calls tells (take k calls)) answers e t → Made e t (told_call tells c) a f u → said ≡ answers ++ (a ∷ [])
-    → Chain d s (told_calls tells (take (k + 1) calls)) said f u
-chain_more tells calls k c d e f s t u answers said a inside here chain made is =
-    subst (λ said. Chain d s (told_calls tells (take (k + 1) calls)) said f u) (sym is)
-    (subst (λ cs. Chain d s cs (answers ++ (a ∷ [])) f u) (sym (map_more (told_call tells) calls k c inside))
-    (chain_last d e f s t u (told_calls tells (take k calls)) answers (told_call tells (get_or calls k c)) a chain (subst (λ c. Made e t (told_call tells c) a f u) here made)))
+-- an exchange is answered: the calls stay, one more of them is made, and one more answer is given
+module _ {W : Type 0} (tells : W → ℕ → Bool) (old now : List (Exchange W)) (k : ℕ) (x : Exchange W) (a : Answer) (inside : k < length old) (long : length now ≡ length old) (same : asked now ≡ asked old) where
+  abbrev answered : List (Exchange W)
+  answered = set now k (record { call = (get_or now k x).call; answer = a })
+
+  pub asked_too : asked answered ≡ asked old
+  asked_too =
+      map-set (λ (e : Exchange W). e.call) now k _
+      ∙ (ap (set (asked now) k) (sym (get_or-map (λ (e : Exchange W). e.call) now k x))
+      ∙ (set-get_or (asked now) k x.call ∙ same))
+
+  one_answer : answers_of (take (k + 1) answered) ≡ answers_of (take k now) ++ (a ∷ [])
+  one_answer =
+      map_more (λ (e : Exchange W). e.answer) answered k x (omega (arith, inside, long, length-set now k (record { call = (get_or now k x).call; answer = a })))
+      ∙ (ap (λ (es : List (Exchange W)). answers_of es ++ ((get_or answered k x).answer ∷ [])) (take-set now k _)
+      ∙ ap (λ (e : Exchange W). answers_of (take k now) ++ (e.answer ∷ [])) (get_or-set_same now k _ x (omega (arith, inside, long))))
+
+  one_call : calls_of tells (take (k + 1) old) ≡ calls_of tells (take k old) ++ (told_call tells (get_or now k x).call ∷ [])
+  one_call =
+      map_more (λ (e : Exchange W). told_call tells e.call) old k x inside
+      ∙ ap (λ c. calls_of tells (take k old) ++ (told_call tells c ∷ []))
+      (sym (get_or-map (λ (e : Exchange W). e.call) old k x) ∙ (ap (λ cs. get_or cs k x.call) (sym same) ∙ get_or-map (λ (e : Exchange W). e.call) now k x))
+
+  pub chain_more : (m n o : Moment) → Chain m (calls_of tells (take k old)) (answers_of (take k now)) n → CallLaw n (told_call tells (get_or now k x).call) a o → Shows o.draft
+      → Chain m (calls_of tells (take (k + 1) old)) (answers_of (take (k + 1) answered)) o
+  chain_more m n o chain law shows =
+      subst (λ cs. Chain m cs (answers_of (take (k + 1) answered)) o) (sym one_call)
+      (subst (λ said. Chain m (calls_of tells (take k old) ++ (told_call tells (get_or now k x).call ∷ [])) said o) (sym one_answer)
+      (chain_last m n o _ _ _ _ chain law shows))

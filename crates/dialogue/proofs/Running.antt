@@ -1,96 +1,136 @@
 -- Calls made one after another on a new draft keep the law.
-use Rattle.std.proofs.Common.{◌≡◌, ℕ, zero, suc, ◌<◌, ◌≤◌, min, List, [], ◌∷◌, length, refl, sym, ap, ◌∙◌, subst, arith}
-use Rattle.language.specs.Book.{Grammar, Meaning}
-use Rattle.language.specs.Sound.{Sound}
+use Rattle.std.proofs.Common.{◌≡◌, ℕ, zero, suc, ◌<◌, ◌≤◌, Bool, List, [], ◌∷◌, ◌++◌, length, refl, sym, ap, ◌∙◌, subst, inl, inr, arith}
 use Rattle.language.specs.Words.{Word}
 use Rattle.language.specs.Readings.{Item}
 use Rattle.rulebook.specs.declared.faults.Fault.{Fault}
-use Rattle.chart.specs.States.{State, opened}
+use Rattle.soundbook.specs.declared.sounds.SoundBook.{SoundBook}
+use Rattle.chart.specs.declared.drafts.LitSet.{LitSet}
+use Rattle.draft.specs.Law.{Shows, SameChart}
+use Rattle.draft.specs.States.{State, opened}
+use Rattle.reading.specs.declared.readings.Written.{Written}
 use Rattle.dialogue.specs.declared.calls.Call.{Call}
+use Rattle.dialogue.specs.declared.calls.Call.TheVariants.{Press, RubOut, Lit, Whole, Reading}
 use Rattle.dialogue.specs.declared.calls.Answer.{Answer}
-use Rattle.dialogue.specs.declared.calls.Answer.TheVariants.{Refused}
-use Rattle.dialogue.specs.Law.{Moment, Seen, CallLaw, Law, call_at, answer_at}
-use Rattle.dialogue.specs.Chain.{Chain, none, more}
-use Rattle.dialogue.proofs.Lending.{moment_of, DraftOver, seen}
-use Rattle.dialogue.proofs.Answering.{Step, made}
-use Rattle.dialogue.proofs.Opening.{opened_is_over}
+use Rattle.dialogue.specs.declared.calls.Answer.TheVariants.{Items, Keys, Yes, Moves, Refused}
+use Rattle.dialogue.specs.Runs.{Moment, moment_of, CallLaw, Law, call_at, answer_at}
+use Rattle.dialogue.proofs.Chaining.{Chain, none, more}
+
+-- an answer that gives something is no refusal
+pub items_taken : (k : ℕ) (f : Fault) (a : Answer) → a ≡ Items k → a ≡ Refused f → ⊥
+items_taken k f a e r = let z : Items k ≡ Refused f = sym e ∙ r in cc
+
+keys_given : (l : LitSet) (f : Fault) (a : Answer) → a ≡ Keys l → a ≡ Refused f → ⊥
+keys_given l f a e r = let z : Keys l ≡ Refused f = sym e ∙ r in cc
+
+yes_given : (b : Bool) (f : Fault) (a : Answer) → a ≡ Yes b → a ≡ Refused f → ⊥
+yes_given b f a e r = let z : Yes b ≡ Refused f = sym e ∙ r in cc
+
+moves_given : (w : Written) (f : Fault) (a : Answer) → a ≡ Moves w → a ≡ Refused f → ⊥
+moves_given w f a e r = let z : Moves w ≡ Refused f = sym e ∙ r in cc
+
+-- moments of one draft and one strip are one
+alike : (m n : Moment) → n.draft ≡ m.draft → n.strip ≡ m.strip → n ≡ m
+alike m n d s = λ i. record { draft = d i; strip = s i }
+
+-- a refused call changes nothing
+refused_same : (m n : Moment) (c : Call Word) (a : Answer) → CallLaw m c a n → (f : Fault) → a ≡ Refused f → n ≡ m
+refused_same m n (Press w) a (inl (k, p, is), s) f r = absurd (items_taken k f a is r)
+refused_same m n (Press w) a (inr (h, p, is), s) f r = alike m n p.same s
+refused_same m n RubOut a (inl (k, p, is), s) f r = absurd (items_taken k f a is r)
+refused_same m n RubOut a (inr (h, p, is), s) f r = alike m n p.same s
+refused_same m n Lit a ((l, lit, is), same) f r = same
+refused_same m n Whole a ((b, whole, is), same) f r = same
+refused_same m n Reading a (inl (w, p, is), d) f r = absurd (moves_given w f a is r)
+refused_same m n Reading a (inr (h, p, is), d) f r = alike m n d p.1
+
+-- a call leaves the book, the number of places and all past them
+over_too : (d e : State) → e ≡ d → SameChart d e
+over_too d e same = record { book = ap (λ (x : State). x.book) same; long = ap (λ (x : State). length x.places) same; beyond = ap (λ (x : State). x.beyond) same }
+
+same_chart : (m n : Moment) (c : Call Word) (a : Answer) → CallLaw m c a n → SameChart m.draft n.draft
+same_chart m n (Press w) a (inl (k, p, is), s) = p.same
+same_chart m n (Press w) a (inr (h, p, is), s) = over_too m.draft n.draft p.same
+same_chart m n RubOut a (inl (k, p, is), s) = p.same
+same_chart m n RubOut a (inr (h, p, is), s) = over_too m.draft n.draft p.same
+same_chart m n Lit a (lit, same) = over_too m.draft n.draft (ap (λ (x : Moment). x.draft) same)
+same_chart m n Whole a (whole, same) = over_too m.draft n.draft (ap (λ (x : Moment). x.draft) same)
+same_chart m n Reading a (read, d) = over_too m.draft n.draft d
+
+further : (c d e : State) → SameChart c d → SameChart d e → SameChart c e
+further c d e p q = record { book = q.book ∙ p.book; long = q.long ∙ p.long; beyond = q.beyond ∙ p.beyond }
 
 -- one moment, and then others
 abbrev then : Moment → (ℕ → Moment) → ℕ → Moment
 then x next zero = x
 then x next (suc k) = next k
 
-module _ (m : Meaning) (sound : Sound m) (lent : List Item) where
-  abbrev g : Grammar
-  g = m.grammar
+-- the law of calls from any moment to a later one, of a draft over a chart that was lent so
+record Ran (first : State) (start : Moment) (calls : List (Call Word)) (answers : List Answer) (end : Moment) : Type 0 where
+  moment : ℕ → Moment
+  answered : length answers ≡ length calls
+  begins : moment 0 ≡ start
+  shows : (k : ℕ) → k ≤ length calls → Shows (moment k).draft
+  same : (k : ℕ) → k ≤ length calls → SameChart first (moment k).draft
+  call : (k : ℕ) → k < length calls → CallLaw (moment k) (call_at calls k) (answer_at answers k) (moment (suc k))
+  ends : moment (length calls) ≡ end
 
-  abbrev places : ℕ
-  places = min 60000 (length lent)
-
-  -- the law of calls from any moment to a later one
-  record Ran (start : Moment) (calls : List (Call Word)) (answers : List Answer) (end : Moment) : Type 0 where
-    moment : ℕ → Moment
-    answered : length answers ≡ length calls
-    first : moment 0 ≡ start
-    seen : (k : ℕ) → k ≤ length calls → Seen g lent places (moment k)
-    call : (k : ℕ) → k < length calls → CallLaw g places (moment k) (call_at calls k) (answer_at answers k) (moment (suc k))
-    refused : (k : ℕ) (f : Fault) → k < length calls → answer_at answers k ≡ Refused f → moment (suc k) ≡ moment k
-    last : moment (length calls) ≡ end
-
-  ran_none : (d : State) (s : List ℕ) → DraftOver g lent d → Ran (moment_of d s) [] [] (moment_of d s)
-  ran_none d s is_over = record {
-    moment = λ k. moment_of d s;
+module _ (first : State) where
+  ran_none : (m : Moment) → Shows m.draft → SameChart first m.draft → Ran first m [] [] m
+  ran_none m shows same = record {
+    moment = λ k. m;
     answered = refl;
-    first = refl;
-    seen = λ k l. seen m sound lent d s is_over;
+    begins = refl;
+    shows = λ k l. shows;
+    same = λ k l. same;
     call = λ k l. absurd (omega arith);
-    refused = λ k f l. absurd (omega arith);
-    last = refl;
+    ends = refl;
   }
 
-  module _ (d e : State) (s t : List ℕ) (c : Call Word) (a : Answer) (calls : List (Call Word)) (answers : List Answer) (end : Moment) (is_over : DraftOver g lent d) (one : Step m sound lent d e s t c a) (rest : Ran (moment_of e t) calls answers end) where
+  module _ (m n : Moment) (c : Call Word) (a : Answer) (calls : List (Call Word)) (answers : List Answer) (end : Moment) (shows : Shows m.draft) (same : SameChart first m.draft) (law : CallLaw m c a n) (rest : Ran first n calls answers end) where
     abbrev moments : ℕ → Moment
-    moments = then (moment_of d s) rest.moment
+    moments = then m rest.moment
 
-    seen_each : (k : ℕ) → k ≤ length (c ∷ calls) → Seen g lent places (moments k)
-    seen_each zero l = seen m sound lent d s is_over
-    seen_each (suc k) l = rest.seen k (omega (arith, l))
+    shows_each : (k : ℕ) → k ≤ length (c ∷ calls) → Shows (moments k).draft
+    shows_each zero l = shows
+    shows_each (suc k) l = rest.shows k (omega (arith, l))
 
-    call_each : (k : ℕ) → k < length (c ∷ calls) → CallLaw g places (moments k) (call_at (c ∷ calls) k) (answer_at (a ∷ answers) k) (moments (suc k))
-    call_each zero l = subst (CallLaw g places (moment_of d s) c a) (sym rest.first) one.law
+    same_each : (k : ℕ) → k ≤ length (c ∷ calls) → SameChart first (moments k).draft
+    same_each zero l = same
+    same_each (suc k) l = rest.same k (omega (arith, l))
+
+    call_each : (k : ℕ) → k < length (c ∷ calls) → CallLaw (moments k) (call_at (c ∷ calls) k) (answer_at (a ∷ answers) k) (moments (suc k))
+    call_each zero l = subst (CallLaw m c a) (sym rest.begins) law
     call_each (suc k) l = rest.call k (omega (arith, l))
 
-    refused_each : (k : ℕ) (f : Fault) → k < length (c ∷ calls) → answer_at (a ∷ answers) k ≡ Refused f → moments (suc k) ≡ moments k
-    refused_each zero f l is = rest.first ∙ one.refused f is
-    refused_each (suc k) f l is = rest.refused k f (omega (arith, l)) is
-
-    ran_more : Ran (moment_of d s) (c ∷ calls) (a ∷ answers) end
+    ran_more : Ran first m (c ∷ calls) (a ∷ answers) end
     ran_more = record {
       moment = moments;
       answered = ap suc rest.answered;
-      first = refl;
-      seen = seen_each;
+      begins = refl;
+      shows = shows_each;
+      same = same_each;
       call = call_each;
-      refused = refused_each;
-      last = rest.last;
+      ends = rest.ends;
     }
 
-  ran : (d e : State) (s t : List ℕ) (calls : List (Call Word)) (answers : List Answer) → DraftOver g lent d → Chain d s calls answers e t → Ran (moment_of d s) calls answers (moment_of e t)
-  ran _ _ _ _ _ _ is_over (none d s) = ran_none d s is_over
-  ran _ _ _ _ _ _ is_over (more d e f s t u c a calls answers first rest) =
-      let one : Step m sound lent d e s t c a = made m sound lent d e s t c a is_over first in
-      ran_more d e s t c a calls answers (moment_of f u) is_over one (ran e f t u calls answers one.is_over rest)
+  ran : (m n : Moment) (calls : List (Call Word)) (answers : List Answer) → Shows m.draft → SameChart first m.draft → Chain m calls answers n → Ran first m calls answers n
+  ran _ _ _ _ shows same (none m) = ran_none m shows same
+  ran _ _ _ _ shows same (more m n o c a calls answers law seen rest) =
+      ran_more m n c a calls answers o shows same law (ran n o calls answers seen (further first m.draft n.draft same (same_chart m n c a law)) rest)
 
-  -- on a new draft
-  pub law_kept : (d e : State) (s t : List ℕ) (calls : List (Call Word)) (answers : List Answer) → d ≡ opened g lent → Chain d s calls answers e t → Law g lent s calls answers e.places t
-  law_kept d e s t calls answers is chain =
-      let r : Ran (moment_of d s) calls answers (moment_of e t) = ran d e s t calls answers (subst (DraftOver g lent) (sym is) (opened_is_over m sound lent)) chain in
-      record {
-        moment = r.moment;
-        answered = r.answered;
-        first = (ap (λ (x : Moment). x.words) r.first ∙ ap (λ d. (moment_of d s).words) is, ap (λ (x : Moment). x.strip) r.first);
-        seen = r.seen;
-        call = r.call;
-        refused = r.refused;
-        last = (ap (λ (x : Moment). x.places) r.last, ap (λ (x : Moment). x.strip) r.last);
-      }
+-- on a new draft
+pub law_kept : (book : SoundBook) (lent : List Item) (s : List ℕ) (calls : List (Call Word)) (answers : List Answer) (last : Moment) (places : List Item) (left : List ℕ) → Shows (opened book lent)
+    → Chain (moment_of (opened book lent) s) calls answers last → last.draft.places ++ last.draft.beyond ≡ places → last.strip ≡ left → Law book lent s calls answers places left
+law_kept book lent s calls answers last places left shows chain back strip =
+    let r = ran (opened book lent) (moment_of (opened book lent) s) last calls answers shows (over_too (opened book lent) (opened book lent) refl) chain in
+    record {
+      moment = r.moment;
+      answered = r.answered;
+      first = r.begins;
+      shows = r.shows;
+      same = r.same;
+      call = r.call;
+      refused = λ k f l. refused_same (r.moment k) (r.moment (suc k)) (call_at calls k) (answer_at answers k) (r.call k l) f;
+      chart = ap (λ (m : Moment). m.draft.places ++ m.draft.beyond) r.ends ∙ back;
+      strip_left = ap (λ (m : Moment). m.strip) r.ends ∙ strip;
+    }

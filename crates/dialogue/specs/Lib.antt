@@ -1,4 +1,3 @@
 pub mod Calls
-pub mod Chain
-pub mod Law
+pub mod Runs
 pub mod Theorem

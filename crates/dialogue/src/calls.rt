@@ -1,9 +1,9 @@
 // The calls of a draft, and their answers.
-use chart::LitSet;
+use draft::LitSet;
 use reading::Written;
 use rulebook::Fault;
 
-// A call of a draft.
+/// A call of a draft.
 #[derive(Clone, Copy, Debug, PartialEq, Eq)]
 pub enum Call<W> {
     Press(W),
@@ -13,7 +13,7 @@ pub enum Call<W> {
     Reading,
 }
 
-// The answer of a call.
+/// The answer of a call.
 #[derive(Clone, Copy, Debug, PartialEq, Eq)]
 pub enum Answer {
     // of press and rub out: how many items stand in the chart
@@ -26,4 +26,16 @@ pub enum Answer {
     Moves(Written),
     // of any call that may be refused
     Refused(Fault),
+}
+
+/// A call, and the place for its answer.
+#[derive(Clone, Copy, Debug, PartialEq, Eq)]
+pub struct Exchange<W> {
+    pub call: Call<W>,
+    pub answer: Answer,
+}
+
+impl Answer {
+    /// What stands in the place of an answer that is still to come.
+    pub const BLANK: Answer = Answer::Yes(false);
 }

@@ -5,6 +5,6 @@ mod calls;
 mod runs;
 mod theorems;
 
-pub use calls::{Answer, Call};
-pub use runs::{Handed, run};
+pub use calls::{Answer, Call, Exchange};
+pub use runs::{RunResult, converse, run};
 pub use theorems::law_theorem;

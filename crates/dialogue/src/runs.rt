@@ -1,30 +1,30 @@
-// A run of calls on one new draft.
-ghost use Rattle.std.specs.Prelude.{◌≡◌, map, IfOk, MatchResult};
+// Runs of calls on a new draft.
+ghost use Rattle.std.specs.Prelude.{◌≡◌, map, MatchResult};
 ghost use Rattle.language.specs.Sound.{Sound};
 ghost use Rattle.soundbook.specs.Refusals.{CheckRefuses};
 ghost use Rattle.soundbook.specs.Sounds.{sound_meaning};
 ghost use Rattle.chart.specs.Items.{told};
-ghost use Rattle.dialogue.specs.Law.{Law};
-ghost use Rattle.dialogue.specs.Calls.{told_call, told_calls};
-ghost use Rattle.dialogue.specs.Chain.{Made, Chain};
+ghost use Rattle.draft.specs.Law.{Shows};
+ghost use Rattle.dialogue.specs.Calls.{told_call, asked, calls_of, answers_of};
+ghost use Rattle.dialogue.specs.Runs.{CallLaw, Law, moment_of};
 
-use super::calls::{Answer, Call};
-use chart::{Draft, Item};
+use super::calls::{Answer, Call, Exchange};
+use draft::{Draft, Item};
 use reading::reading;
 use rulebook::{Book, Fault};
 use soundbook::{SoundBook, check};
-use std::alloc::{AllocError, Global};
 use wording::Word;
 
-// What is handed back: the chart, and the answers, or why the book was refused.
-pub struct Handed {
+/// The chart, and whether the book passed the check.
+pub struct RunResult {
     pub chart: Vec<Item>,
-    pub answers: Result<Vec<Answer>, Fault>,
+    pub checked: Result<(), Fault>,
 }
 
 // Makes a call, and answers it.
 fn make<W: Word>(draft: &mut Draft, call: &Call<W>, strip: &mut [u8]) -> Answer
-    ensures { Made draft.old strip.old (told_call W.tells call.now) result draft.new strip.new }
+    ensures shows { Shows draft.new }
+    ensures law { CallLaw (moment_of draft.old strip.old) (told_call W.tells call.now) result (moment_of draft.new strip.new) }
 {
     match call {
         Call::Press(word) => draft
@@ -37,44 +37,43 @@ fn make<W: Word>(draft: &mut Draft, call: &Call<W>, strip: &mut [u8]) -> Answer
     }
 }
 
-// Makes all calls, one after another, and answers each.
-fn make_all<W: Word>(
-    heap: Global,
-    draft: &mut Draft,
-    calls: &[Call<W>],
+/// Opens a new draft of a sound book over the chart, makes the calls in order, and answers each in its place. The chart comes
+/// back.
+pub fn converse<W: Word>(
+    book: &SoundBook,
+    chart: Vec<Item>,
+    exchanges: &mut [Exchange<W>],
     strip: &mut [u8],
-) -> Result<Vec<Answer>, AllocError>
-    ensures { IfOk result (λ v. Chain draft.old strip.old (told_calls W.tells calls.now) v.items draft.new strip.new) }
+) -> Vec<Item>
+    ensures calls { asked exchanges.new ≡ asked exchanges.old }
+    ensures law { Law book.now (map told chart.items) strip.old (calls_of W.tells exchanges.old) (answers_of exchanges.new) (map told result.items) strip.new }
 {
-    let mut answers = Vec::with_capacity(heap, calls.len())?;
-    for call in calls {
-        answers.push(make(draft, call, strip))?;
+    let mut draft = Draft::open(book, chart);
+    for exchange in exchanges.iter_mut() {
+        exchange.answer = make(&mut draft, &exchange.call, strip);
     }
-    Ok(answers)
+    draft.into_chart()
 }
 
-// Checks a book into a place, opens a new draft of it over the chart, makes the calls in order, and answers each. A book that
-// does not pass is refused, and then the place, the chart and the strip are as they were.
+/// Checks a book of any make into a place, and makes the calls on a new draft of it. A book that does not pass is refused, and
+/// then all is as it was.
 pub fn run<B: Book, W: Word>(
-    heap: Global,
     book: &B,
     place: &mut SoundBook,
     chart: Vec<Item>,
-    calls: &[Call<W>],
+    exchanges: &mut [Exchange<W>],
     strip: &mut [u8],
-) -> Result<Handed, AllocError>
-    ensures { IfOk result (λ h. MatchResult h.answers (λ said. (sound_meaning place.new ≡ B.meaning book.now) × Sound (B.meaning book.now) × Law (B.meaning book.now).grammar (map told chart.items) strip.old (told_calls W.tells calls.now) said.items (map told h.chart.items) strip.new) (λ f. CheckRefuses (B.meaning book.now) f × (place.new ≡ place.old) × (h.chart.items ≡ chart.items) × (strip.new ≡ strip.old))) }
+) -> RunResult
+    ensures { MatchResult result.checked (λ _. Sound (B.meaning book.now) × (sound_meaning place.new ≡ B.meaning book.now) × (asked exchanges.new ≡ asked exchanges.old) × Law place.new (map told chart.items) strip.old (calls_of W.tells exchanges.old) (answers_of exchanges.new) (map told result.chart.items) strip.new) (λ f. CheckRefuses (B.meaning book.now) f × (place.new ≡ place.old) × (exchanges.new ≡ exchanges.old) × (result.chart.items ≡ chart.items) × (strip.new ≡ strip.old)) }
 {
     if let Err(fault) = check(book, place) {
-        return Ok(Handed {
+        return RunResult {
             chart,
-            answers: Err(fault),
-        });
+            checked: Err(fault),
+        };
     }
-    let mut draft = Draft::open(place, chart);
-    let answers = make_all(heap, &mut draft, calls, strip)?;
-    Ok(Handed {
-        chart: draft.into_chart(),
-        answers: Ok(answers),
-    })
+    RunResult {
+        chart: converse(place, chart, exchanges, strip),
+        checked: Ok(()),
+    }
 }

@@ -4,7 +4,7 @@
 #![tactic(auto)]
 
 use bookreport::sound_book;
-use chart::{Draft, Item};
+use draft::{Draft, Item};
 use files::if_present;
 use lines::fault_line;
 use reading::reading;

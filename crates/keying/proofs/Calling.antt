@@ -2,7 +2,7 @@
 use Rattle.std.proofs.Common.{◌≡◌, ℕ, zero, suc, ◌+◌, ◌*◌, ◌<◌, List, [], ◌∷◌, length, map, get_or, refl, ap, ◌∙◌, arith}
 use Rattle.std.proofs.lemmas.List.{length-map}
 use Rattle.language.specs.Words.{Word}
-use Rattle.dialogue.specs.Law.{call_at}
+use Rattle.dialogue.specs.Runs.{call_at}
 use Rattle.dialogue.specs.declared.calls.Call.TheVariants.{Press, Lit, Reading}
 use Rattle.keying.specs.Keyed.{keying}
 

@@ -1,7 +1,6 @@
 -- What is said of a programme that is keyed in.
-use Rattle.std.specs.Prelude.{◌≡◌, ℕ, Bool, ◌≤◌, ◌⊎◌, ◌↔◌, List, [], ◌∷◌, ◌++◌, map, length, take, drop, Option, Some, None, Result, Err, MatchResult, String, string_bytes, codes}
+use Rattle.std.specs.Prelude.{◌≡◌, ℕ, Bool, ◌≤◌, ◌⊎◌, ◌↔◌, List, [], ◌∷◌, ◌++◌, map, length, take, drop, Option, Some, None, codes}
 use Rattle.language.specs.Book.{Grammar, Meaning}
-use Rattle.language.specs.Sound.{Sound}
 use Rattle.language.specs.Words.{Word}
 use Rattle.language.specs.Readings.{Item, Programme}
 use Rattle.language.specs.Columns.{Among, Apart}
@@ -9,6 +8,7 @@ use Rattle.language.specs.Order.{First}
 use Rattle.lines.specs.Columns.{told_fault, told_word, told_whole}
 use Rattle.rulebook.specs.declared.faults.Fault.{Fault}
 use Rattle.soundbook.specs.Sounds.{sound_meaning}
+use Rattle.soundbook.specs.declared.sounds.SoundBook.{SoundBook}
 use Rattle.booktext.specs.Text.{text_meaning}
 use Rattle.bookreport.specs.Findings.{Accepted, TextRefused}
 use Rattle.wording.specs.Matching.{piece_matches}
@@ -17,11 +17,12 @@ use Rattle.wording.specs.Sets.{word_of}
 use Rattle.wording.specs.declared.pieces.Placed.{Placed}
 use Rattle.wording.specs.declared.spelled.Spelled.{Spelled}
 use Rattle.reading.specs.Written.{moves_of}
-use Rattle.dialogue.specs.Law.{MayFollow, ItemsOver, WordTaken, WordNotTaken, Law}
+use Rattle.draft.specs.Law.{MayFollow, ItemsOver, WordTaken, WordNotTaken}
+use Rattle.dialogue.specs.Runs.{Law}
 use Rattle.dialogue.specs.declared.calls.Call.{Call}
 use Rattle.dialogue.specs.declared.calls.Call.TheVariants.{Press, Lit, Reading}
 use Rattle.dialogue.specs.declared.calls.Answer.{Answer}
-use Rattle.dialogue.specs.declared.calls.Answer.TheVariants.{Items, Keys, Moves, Refused}
+use Rattle.dialogue.specs.declared.calls.Answer.TheVariants.{Items, Keys, Moves}
 
 -- a piece of programme text as a word of a book
 abbrev pub piece_word : Meaning → Placed → Word
@@ -82,27 +83,19 @@ keying [] = Reading ∷ []
 keying (w ∷ ws) = Press w ∷ Lit ∷ keying ws
 
 -- these calls were made on a new draft of a sound book, with a chart of 8,000 places and a strip of 12,836, and answered so
-pub record KeyedRun (m : Meaning) (ws : List Word) (answers : List Answer) : Type 0 where
-  pub sound : Sound m
+pub record KeyedRun (book : SoundBook) (ws : List Word) (answers : List Answer) : Type 0 where
   pub lent : List Item
   pub many : length lent ≡ 8000
   pub strip : List ℕ
   pub long : length strip ≡ 12836
   pub places : List Item
   pub left : List ℕ
-  pub law : Law m.grammar lent strip (keying ws) answers places left
+  pub law : Law book lent strip (keying ws) answers places left
 
--- what the press of a word and then lit can be answered: how many items there are, and the keys; or the press is refused
-abbrev pub WordAnswered : Answer → Answer → Type 0
-WordAnswered (Items n) (Keys lit) = Unit {0}
-WordAnswered (Refused f) lit = Unit {0}
-WordAnswered pressed lit = ⊥
-
--- what is said then: the line of the word that is taken, or why it is refused
-abbrev pub WordSaid : {A : Type 0} → ℕ → Answer → Answer → Result (String A) Fault → Type 0
-WordSaid number (Items n) (Keys lit) r = MatchResult r (λ l. string_bytes l ≡ told_word number n lit.count) (λ f. ⊥)
-WordSaid number (Refused f) lit r = r ≡ Err f
-WordSaid number pressed lit r = ⊥
+-- the line of a word that is taken, by the answers of its press and of lit
+abbrev pub WordSaid : ℕ → Answer → Answer → List ℕ → Type 0
+WordSaid number (Items n) (Keys lit) s = s ≡ told_word number n lit.count
+WordSaid number pressed lit s = Unit {0}
 
 -- the last line where no word is left, by the answer of the reading
 abbrev pub LastSaid : Option Fault → Answer → List ℕ → Type 0

@@ -1,15 +1,16 @@
 // A programme is keyed in, and what is said of it.
-ghost use Rattle.std.specs.Prelude.{◌≡◌, map, string_bytes, IfOk};
+ghost use Rattle.std.specs.Prelude.{◌≡◌, map, string_bytes, IfOk, MatchOption};
 ghost use Rattle.soundbook.specs.Sounds.{sound_meaning};
-ghost use Rattle.dialogue.specs.Calls.{told_calls};
-ghost use Rattle.keying.specs.Keyed.{piece_word, keying, spelled_tells, KeyedRun, WordAnswered, WordSaid, LastSaid, AllKeyed, KeyedIn, Keyed};
+ghost use Rattle.dialogue.specs.Calls.{calls_of, answers_of};
+ghost use Rattle.dialogue.specs.declared.calls.Answer.TheVariants.{Refused};
+ghost use Rattle.keying.specs.Keyed.{piece_word, keying, spelled_tells, KeyedRun, WordSaid, LastSaid, AllKeyed, KeyedIn, Keyed};
 
 use bookreport::sound_book;
-use chart::Item;
-use dialogue::{Answer, Call, Handed, run};
+use dialogue::{Answer, Call, Exchange, converse};
+use draft::Item;
 use lines::{fault_line, whole_line, word_line};
 use rulebook::Fault;
-use soundbook::{SoundBook, smallest_book};
+use soundbook::SoundBook;
 use std::alloc::{AllocError, Global};
 use wording::{Placed, Programme, Spelled, cut};
 
@@ -20,38 +21,53 @@ const PLACES: usize = 8000;
 const STRIP: usize = 12_836;
 
 // The calls that key in words: a press of each and what is lit then, and in the end the reading.
-fn calls_of<'t, 'b>(
+fn exchanges_of<'t, 'b>(
     heap: Global,
     book: &'b SoundBook,
     words: &[Placed<'t>],
-) -> Result<Vec<Call<Spelled<'t, 'b>>>, AllocError>
-    ensures { IfOk result (λ calls. told_calls spelled_tells calls.items ≡ keying (map (piece_word (sound_meaning book.now)) words.now)) }
+) -> Result<Vec<Exchange<Spelled<'t, 'b>>>, AllocError>
+    ensures { IfOk result (λ es. calls_of spelled_tells es.items ≡ keying (map (piece_word (sound_meaning book.now)) words.now)) }
 {
-    let mut calls = Vec::new(heap);
+    let mut exchanges = Vec::new(heap);
     for word in words {
-        calls.push(Call::Press(Spelled { word: *word, book }))?;
-        calls.push(Call::Lit)?;
+        exchanges.push(Exchange {
+            call: Call::Press(Spelled { word: *word, book }),
+            answer: Answer::BLANK,
+        })?;
+        exchanges.push(Exchange {
+            call: Call::Lit,
+            answer: Answer::BLANK,
+        })?;
     }
-    calls.push(Call::Reading)?;
-    Ok(calls)
+    exchanges.push(Exchange {
+        call: Call::Reading,
+        answer: Answer::BLANK,
+    })?;
+    Ok(exchanges)
 }
 
-// The line of a word that is taken, or why it is refused.
+// Why a call was refused, if it was.
+fn refusal(answer: &Answer) -> Option<Fault>
+    ensures { MatchOption result ((f : _) → answer.now ≡ Refused f → ⊥) (λ f. answer.now ≡ Refused f) }
+{
+    match answer {
+        Answer::Refused(fault) => Some(*fault),
+        _ => None,
+    }
+}
+
+// The line of a word that is taken.
 fn word_said(
     heap: Global,
     number: usize,
     pressed: Answer,
     lit: Answer,
-) -> Result<Result<String, Fault>, AllocError>
-    requires { WordAnswered pressed lit }
-    ensures { IfOk result (WordSaid number pressed lit) }
+) -> Result<String, AllocError>
+    ensures { IfOk result (λ l. WordSaid number pressed lit (string_bytes l)) }
 {
     match (pressed, lit) {
-        (Answer::Items(items), Answer::Keys(lit)) => {
-            Ok(Ok(word_line(heap, number, items, lit.count)?))
-        }
-        (Answer::Refused(fault), _) => Ok(Err(fault)),
-        _ => unreachable!(),
+        (Answer::Items(items), Answer::Keys(lit)) => word_line(heap, number, items, lit.count),
+        _ => Ok(String::new(heap)),
     }
 }
 
@@ -66,54 +82,38 @@ fn last_line(heap: Global, fault: Option<Fault>, reading: Answer) -> Result<Stri
     }
 }
 
-// The answers of a run that keys in the words of a programme, over a chart and with a strip that are lent to it.
-fn answers_of(
+// A run that keys in the words of a programme, over a chart and with a strip that are lent to it.
+fn run_of<'t, 'b>(
     heap: Global,
-    book: &SoundBook,
-    programme: &Programme,
-) -> Result<Vec<Answer>, AllocError>
-    ensures { let m = sound_meaning book.now in IfOk result (λ answers. KeyedRun m (map (piece_word m) programme.now.words.items) answers.items) }
+    book: &'b SoundBook,
+    programme: &Programme<'t>,
+) -> Result<Vec<Exchange<Spelled<'t, 'b>>>, AllocError>
+    ensures { IfOk result (λ es. KeyedRun book.now (map (piece_word (sound_meaning book.now)) programme.now.words.items) (answers_of es.items)) }
 {
-    let calls = calls_of(heap, book, programme.words.as_slice())?;
+    let mut exchanges = exchanges_of(heap, book, programme.words.as_slice())?;
     let chart = vec![in heap; Item::BLANK; PLACES]?;
     let mut strip = vec![in heap; 0u8; STRIP]?;
-    let mut place = smallest_book();
-    let handed = run(
-        heap,
-        book,
-        &mut place,
-        chart,
-        calls.as_slice(),
-        strip.as_mut_slice(),
-    )?;
-    let Handed {
-        chart: _chart,
-        answers,
-    } = handed;
-    match answers {
-        Ok(answers) => Ok(answers),
-        // no sound book is refused
-        Err(_) => unreachable!(),
-    }
+    let _chart = converse(book, chart, exchanges.as_mut_slice(), strip.as_mut_slice());
+    Ok(exchanges)
 }
 
 // What is said of the words of a programme that are keyed in, one by one up to the first that is refused.
 fn key_words(heap: Global, book: &SoundBook, programme: &Programme) -> Result<String, AllocError>
     ensures { IfOk result (λ s. AllKeyed (sound_meaning book.now) programme.now.words.items programme.now.fault (string_bytes s)) }
 {
-    let answers = answers_of(heap, book, programme)?;
+    let exchanges = run_of(heap, book, programme)?;
     let words = programme.words.len();
     let mut said = String::new(heap);
     for place in 0..words {
-        match word_said(heap, place + 1, answers[2 * place], answers[2 * place + 1])? {
-            Ok(line) => said.push_str(line.as_str())?,
-            Err(fault) => {
-                said.push_str(fault_line(heap, &fault)?.as_str())?;
-                return Ok(said);
-            }
+        let pressed = exchanges[2 * place].answer;
+        if let Some(fault) = refusal(&pressed) {
+            said.push_str(fault_line(heap, &fault)?.as_str())?;
+            return Ok(said);
         }
+        let lit = exchanges[2 * place + 1].answer;
+        said.push_str(word_said(heap, place + 1, pressed, lit)?.as_str())?;
     }
-    said.push_str(last_line(heap, programme.fault, answers[2 * words])?.as_str())?;
+    said.push_str(last_line(heap, programme.fault, exchanges[2 * words].answer)?.as_str())?;
     Ok(said)
 }
 

@@ -1,5 +1,5 @@
 -- Members of lists that are put together, mapped or counted up.
-use Rattle.std.proofs.Common.{◌≡◌, ℕ, zero, suc, ◌≤◌, List, [], ◌∷◌, ◌++◌, map, length, sym, refl, ap, subst, inl, inr, ⊎_elim, arith}
+use Rattle.std.proofs.Common.{◌≡◌, ℕ, zero, suc, ◌<◌, ◌≤◌, List, [], ◌∷◌, ◌++◌, map, length, get_or, sym, refl, ap, subst, inl, inr, ⊎_elim, arith}
 use Rattle.std.specs.List.{AllByRecursion}
 use Rattle.std.proofs.lemmas.Bool.{cases_order}
 use Rattle.language.specs.Columns.{Among}
@@ -43,3 +43,15 @@ pub all_among : {A : Type 0} (P : A → Type 0) (xs : List A) (x : A) → AllByR
 all_among P [] x a m = absurd m
 all_among P (y ∷ xs) x a (inl e) = subst P (sym e) a.0
 all_among P (y ∷ xs) x a (inr m) = all_among P xs x a.1 m
+
+-- what stands at a place of a list is in it
+pub among_get : {A : Type 0} (xs : List A) (q : ℕ) (past : A) → q < length xs → Among (get_or xs q past) xs
+among_get [] q past l = absurd (omega arith)
+among_get (x ∷ xs) zero past l = inl refl
+among_get (x ∷ xs) (suc q) past l = inr (among_get xs q past (omega arith))
+
+-- and what is made of the elements and is in the list that is made so is made of one at a place
+pub made_at : {A B : Type 0} (f : A → B) (y : B) (xs : List A) (past : A) → Among y (map f xs) → (k : ℕ) × (k < length xs) × (f (get_or xs k past) ≡ y)
+made_at f y [] past m = absurd m
+made_at f y (x ∷ xs) past (inl e) = (0, omega arith, sym e)
+made_at f y (x ∷ xs) past (inr m) = let (k, inside, is) = made_at f y xs past m in (suc k, omega (arith, inside), is)

@@ -1,5 +1,5 @@
--- What a draft over a list of words shows: its items, its lit keys, and the words that match one of them.
-use Rattle.std.specs.Prelude.{ℕ, T, ◌↔◌, List, length}
+-- What a draft over a list of words shows: its items, and its lit keys.
+use Rattle.std.specs.Prelude.{ℕ, ◌↔◌, List, length}
 use Rattle.std.specs.List.{AllByRecursion}
 use Rattle.language.specs.Book.{Grammar, Key}
 use Rattle.language.specs.Words.{Word}
@@ -21,9 +21,3 @@ pub record Lit (g : Grammar) (ws : List Word) (c : ℕ) : Type 0 where
 -- the list holds exactly the lit keys
 abbrev pub LitKeys : Grammar → List Word → List ℕ → Type 0
 LitKeys g ws cs = (c : ℕ) → Among c cs ↔ Lit g ws c
-
--- the word matches a lit key
-pub record MatchesLit (g : Grammar) (ws : List Word) (w : Word) : Type 0 where
-  pub key : ℕ
-  pub lit : Lit g ws key
-  pub matches : T (w key)

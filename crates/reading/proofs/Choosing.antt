@@ -18,6 +18,10 @@ numbered_or : (g : Grammar) (r : ℕ) → Numbered g r ⊎ (Numbered g r → ⊥
 numbered_or g r = ⊎_elim (λ l. inr (λ n. omega (arith, n.low))) (λ l. ⊎_elim (λ h. inl (record { low = omega arith; high = omega arith })) (λ h. inr (λ n. omega (arith, n.high))) (cases_lt r (suc (length g.rules)))) (cases_lt r 1)
 
 -- the rules of a draft's grammar have the bounds of its book's
+-- one book has one grammar
+pub same_rules : {a b : SoundBook} → a ≡ b → (sound_meaning a).grammar ≡ (sound_meaning b).grammar
+same_rules e = ap (λ b. (sound_meaning b).grammar) e
+
 pub plain_as : (book : SoundBook) (g : Grammar) → (sound_meaning book).grammar ≡ g → Plain g
 plain_as book g same = subst Plain same (plain (sound_meaning book) book.sound)
 

@@ -10,7 +10,8 @@ use Rattle.language.specs.Order.{Least}
 use Rattle.language.proofs.Known.{sound_known}
 use Rattle.language.proofs.Chart.Proper.{sound_proper}
 use Rattle.soundbook.specs.Sounds.{sound_meaning}
-use Rattle.reading.specs.Choices.{BeginFirst, ChoosesFirst, Finishes, FirstChildren, LowestRule, OfSoundBook}
+use Rattle.soundbook.specs.declared.sounds.SoundBook.{SoundBook}
+use Rattle.reading.specs.Choices.{BeginFirst, ChoosesFirst, Finishes, FirstChildren, LowestRule}
 use Rattle.reading.proofs.Fronts.{first_children, part_reads, part_least, part_wanted}
 
 -- what is known of a first reading
@@ -21,12 +22,12 @@ FirstKnown g ws X i k t =
     × Held g ws t.reading.by (size g t.reading.by) i k
     × LowestHeld g ws t.reading.by i k
 
-pub first_known : (g : Grammar) (ws : List Word) → OfSoundBook g → (X i k : ℕ) → Wanted g ws i X → k ≤ length ws → (t : Reads g X (between i k ws)) → Least t → FirstKnown g ws X i k t
-first_known g ws (book, same) =
+pub first_known : (book : SoundBook) (g : Grammar) → (sound_meaning book).grammar ≡ g → (ws : List Word) → (X i k : ℕ) → Wanted g ws i X → k ≤ length ws → (t : Reads g X (between i k ws)) → Least t → FirstKnown g ws X i k t
+first_known book g same ws =
     subst (λ h. (X i k : ℕ) → Wanted h ws i X → k ≤ length ws → (t : Reads h X (between i k ws)) → Least t → FirstKnown h ws X i k t) same
     (first_children (sound_meaning book) (sound_known (sound_meaning book) book.sound) ws)
 
-module _ (g : Grammar) (ws : List Word) (X i k : ℕ) where
+module _ (book : SoundBook) (g : Grammar) (same : (sound_meaning book).grammar ≡ g) (ws : List Word) (X i k : ℕ) where
   -- the rule that was found is that of a first reading
   is_rule : (found : Option ℕ) → MatchOption found ((q : ℕ) → Finishes g ws X i k q → ⊥) (LowestRule g ws X i k)
       → (r : ℕ) → left g r ≡ X → Held g ws r (size g r) i k → LowestHeld g ws r i k → unwrap_or found 0 ≡ r
@@ -34,12 +35,12 @@ module _ (g : Grammar) (ws : List Word) (X i k : ℕ) where
   is_rule (Some q) is r heads held lowest =
       omega (arith, is.lowest r (record { heads = heads; held = held }), lowest q (is.finishes.heads ∙ sym heads) is.finishes.held)
 
-  pub chosen : OfSoundBook g → (found : Option ℕ) → MatchOption found ((q : ℕ) → Finishes g ws X i k q → ⊥) (LowestRule g ws X i k)
+  pub chosen : (found : Option ℕ) → MatchOption found ((q : ℕ) → Finishes g ws X i k q → ⊥) (LowestRule g ws X i k)
       → (r : ℕ) → r ≡ unwrap_or found 0 → (at : List ℕ) → BeginFirst g ws r i k at → ChoosesFirst g ws X i k (record { rule = r; begins = at })
-  chosen book found lowest r is at begins w short t least =
-      let known = first_known g ws book X i k w short t least in
-      let same : r ≡ t.reading.by = is ∙ is_rule found lowest t.reading.by t.reading.heads known.2 known.3 in
-      record { rule = same; begins = subst (λ q. BeginFirst g ws q i k at) same begins t.reading.children known.0 t.reading.whole known.1 }
+  chosen found lowest r is at begins w short t least =
+      let known = first_known book g same ws X i k w short t least in
+      let rule_is : r ≡ t.reading.by = is ∙ is_rule found lowest t.reading.by t.reading.heads known.2 known.3 in
+      record { rule = rule_is; begins = subst (λ q. BeginFirst g ws q i k at) rule_is begins t.reading.children known.0 t.reading.whole known.1 }
 
 -- a part that is the last of the children: its own reading is the first of its words
 pub record PartFirst (g : Grammar) (ws : List Word) (r i : ℕ) (ks : Children) (s : ℕ) (cs : Children) : Type 0 where
@@ -49,8 +50,8 @@ pub record PartFirst (g : Grammar) (ws : List Word) (r i : ℕ) (ks : Children) 
   pub children : reads.reading.children ≡ cs
   pub least : Least reads
 
-pub part_first : (g : Grammar) (ws : List Word) → OfSoundBook g → (r i : ℕ) (ks : Children) (s : ℕ) (cs : Children) → FirstChildren g ws r i (part ks s cs) → PartFirst g ws r i ks s cs
-part_first g ws (book, same) =
+pub part_first : (book : SoundBook) (g : Grammar) → (sound_meaning book).grammar ≡ g → (ws : List Word) → (r i : ℕ) (ks : Children) (s : ℕ) (cs : Children) → FirstChildren g ws r i (part ks s cs) → PartFirst g ws r i ks s cs
+part_first book g same ws =
     let m = sound_meaning book in
     let sound = sound_known m book.sound in
     let proper = sound_proper m sound in

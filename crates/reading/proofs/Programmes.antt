@@ -1,48 +1,44 @@
 -- What is known of the first reading of the words held.
-use Rattle.std.proofs.Common.{◌≡◌, ℕ, ◌+◌, ◌-◌, ◌*◌, ◌<◌, ◌≤◌, ◌↔◌, List, [], ◌∷◌, ◌++◌, length, take, drop, sym, refl, ap, ◌∙◌, subst, arith, length-append}
+use Rattle.std.proofs.Common.{◌≡◌, ℕ, ◌+◌, ◌-◌, ◌*◌, ◌<◌, ◌≤◌, List, [], ◌∷◌, ◌++◌, length, take, drop, sym, refl, ap, ◌∙◌, subst, arith, length-append}
 use Rattle.std.proofs.Math.Option.{some}
 use Rattle.std.proofs.lemmas.List.{append_assoc}
 use Rattle.language.specs.Book.{Grammar}
 use Rattle.language.specs.Words.{Word}
 use Rattle.language.specs.Readings.{yield, Reads, Programme}
-use Rattle.language.specs.Chart.{Whole, first, self}
+use Rattle.language.specs.Chart.{first, self}
 use Rattle.language.specs.Depth.{Deep}
 use Rattle.language.specs.Machine.{State, steps, initial}
 use Rattle.language.specs.Moves.{moves, inner, rules, MovesAre}
 use Rattle.language.specs.Order.{First, Least}
 use Rattle.language.proofs.Known.{sound_known}
 use Rattle.language.proofs.Chart.Between.{between_all}
-use Rattle.language.proofs.Chart.Theorem.{chart_theorem}
 use Rattle.language.proofs.Moves.Depth.{depth_theorem}
 use Rattle.language.proofs.Moves.Theorem.{moves_theorem}
 use Rattle.language.proofs.Order.First.{first_theorem}
 use Rattle.soundbook.specs.Sounds.{sound_meaning}
 use Rattle.soundbook.specs.declared.sounds.SoundBook.{SoundBook}
-use Rattle.chart.specs.States.{State as Seen, Stands, words}
-use Rattle.chart.proofs.Pressing.{held_long}
+use Rattle.draft.specs.Law.{Shows}
+use Rattle.draft.specs.States.{State as Seen, grammar, words}
 use Rattle.rulebook.specs.declared.faults.Fault.TheVariants.{NotWhole, StripShort}
-use Rattle.reading.specs.Choices.{OfSoundBook}
 use Rattle.reading.specs.Walks.{OpenIs, OpensFirst, Owed}
 use Rattle.reading.specs.Written.{moves_of, rules_of, inner_of, ReadingWritten, ReadingRefused, Rooted}
 use Rattle.reading.specs.declared.walks.Open.{Open}
 
 -- what a sound book's grammar has for its programmes
 pub record Programmes (g : Grammar) (ws : List Word) : Type 0 where
-  pub whole : Whole g ws ↔ Programme g ws
   pub exists : Programme g ws → First g g.start ws
   pub known : (t : Programme g ws) → MovesAre g ws t
   pub deep : (t : Programme g ws) (k : ℕ) (s : State) → steps g (some (initial g ws)) (take k (moves t.reading.by t.reading.children)) ≡ some s → Deep s (rules t.reading)
 
-pub programmes : (g : Grammar) (ws : List Word) → OfSoundBook g → Programmes g ws
-programmes g ws (book, same) =
+pub programmes : (book : SoundBook) (ws : List Word) → Programmes (sound_meaning book).grammar ws
+programmes book ws =
     let m = sound_meaning book in
     let sound = sound_known m book.sound in
-    subst (λ h. Programmes h ws) same (record {
-      whole = (chart_theorem m sound ws).whole;
+    record {
       exists = (first_theorem m sound m.grammar.start ws).exists;
       known = moves_theorem m sound ws;
       deep = depth_theorem m sound ws;
-    })
+    }
 
 -- how long the moves are
 moves_long : (g : Grammar) (ws : List Word) (t : First g g.start ws) → length (moves_of t) ≡ length (inner_of t) + 2
@@ -63,26 +59,24 @@ root g ws X n top start many opens t = record {
     opened = subst (λ us. (u : Reads g g.start us) → Least u → (top.choice.rule ≡ u.reading.by) × OpenIs g ws top 0 u.reading.children) (between_all ws) (there (first g.start self) (omega arith)) t.reads t.least
 
 -- the words held are a programme, whose first reading is opened
-pub rooted : (book : SoundBook) (d : Seen) → (sound_meaning book).grammar ≡ d.grammar → Stands d → Whole d.grammar (words d) → (X n held : ℕ) (top : Open)
-    → X ≡ (sound_meaning book).grammar.start → n ≡ d.held → held ≡ n → OpensFirst d.grammar (words d) X 0 n top → Rooted d.grammar (words d) top held
-rooted book d same stands whole X n held top start many is opens =
-    let g = d.grammar in
+pub rooted : (d : Seen) → Shows d → Programme (grammar d) (words d) → (X n held : ℕ) (top : Open)
+    → X ≡ (grammar d).start → n ≡ length (words d) → held ≡ n → OpensFirst (grammar d) (words d) X 0 n top → Rooted (grammar d) (words d) top held
+rooted d shows programme X n held top start many is opens =
     let ws = words d in
-    let p = programmes g ws (book, same) in
-    let t = p.exists (p.whole.0 whole) in
-    let long = held_long d stands in
+    let p = programmes d.book ws in
+    let t = p.exists programme in
     record {
       first = t;
-      owed = root g ws X n top (start ∙ ap (λ h. h.start) same) (many ∙ sym long) opens t;
-      words = is ∙ (many ∙ sym long);
-      few_words = omega (arith, long, stands.few);
+      owed = root (grammar d) ws X n top start many opens t;
+      words = is ∙ many;
+      few_words = shows.few;
       known = p.known t.reads;
       deep = p.deep t.reads;
     }
 
 -- or they are none
-pub refused_whole : (g : Grammar) (ws : List Word) → Programmes g ws → (places k : ℕ) → k ≡ length ws → (Whole g ws → ⊥) → ReadingRefused g ws places (NotWhole k)
-refused_whole g ws p places k words none = subst (λ n. ReadingRefused g ws places (NotWhole n)) (sym words) (ReadingRefused.not_whole (λ t. none (p.whole.1 t)))
+pub refused_whole : (g : Grammar) (ws : List Word) → (places k : ℕ) → k ≡ length ws → (Programme g ws → ⊥) → ReadingRefused g ws places (NotWhole k)
+refused_whole g ws places k words none = subst (λ n. ReadingRefused g ws places (NotWhole n)) (sym words) (ReadingRefused.not_whole none)
 
 module _ (g : Grammar) (ws : List Word) (top : Open) (held : ℕ) (r : Rooted g ws top held) where
   abbrev t : First g g.start ws

@@ -21,7 +21,7 @@ module _ (book : SoundBook) (g : Grammar) (same : (sound_meaning book).grammar �
   -- the chosen rule is open
   pub opens : (X i k : ℕ) (c : Choice) → ChoosesFirst g ws X i k c → (n : ℕ) → n ≡ size (sound_meaning book).grammar c.rule → OpensFirst g ws X i k (record { choice = c; done = n; end = k })
   opens X i k c chooses n answer w short t least =
-      let known = first_known g ws (book, same) X i k w short t least in
+      let known = first_known book g same ws X i k w short t least in
       let is = chooses w short t least in
       let ks = t.reading.children in
       let many : n ≡ count ks = answer ∙ (ap (λ h. size h c.rule) same ∙ (ap (size g) is.rule ∙ sym t.reading.whole)) in
@@ -161,7 +161,7 @@ module _ (book : SoundBook) (g : Grammar) (same : (sound_meaning book).grammar �
             let long = yield_some g (proper_as book g same) s cs fits.3 (omega (arith, fits.4, (plain_as book g same).some_symbols s numbered)) in
             let before_end : t.i + length (yield ls) < 100 = omega (arith, inside, few, long, length-append (yield ls) (yield cs)) in
             let l = left_of t.i ls t.before t.pending f begins e here (omega arith) in
-            let child = part_first g ws (book, same) r t.i ls s cs is.first in
+            let child = part_first book g same ws r t.i ls s cs is.first in
             let opens_there =
             subst (λ X. OpensFirst g ws X (t.i + length (yield ls)) (t.i + length (yield (part ls s cs))) top) (answer_is ls e)
             (subst (λ b. OpensFirst g ws answer b (t.i + length (yield (part ls s cs))) top) here

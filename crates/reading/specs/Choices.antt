@@ -6,8 +6,6 @@ use Rattle.language.specs.Readings.{Children, none, key, part, yield, count, Fit
 use Rattle.language.specs.Chart.{Wanted, Held, Spans}
 use Rattle.language.specs.Choice.{EarliestHeld, ChosenHeld}
 use Rattle.language.specs.Order.{Least}
-use Rattle.soundbook.specs.Sounds.{sound_meaning}
-use Rattle.soundbook.specs.declared.sounds.SoundBook.{SoundBook}
 use Rattle.reading.specs.declared.choices.Choice.{Choice}
 
 -- the children are the first, or all, of those of a first reading by rule r that starts after word i
@@ -41,10 +39,6 @@ pub record Chooses (c : Choice) (i r : ℕ) (ks : Children) : Type 0 where
 abbrev pub ChoosesFirst : Grammar → List Word → ℕ → ℕ → ℕ → Choice → Type 0
 ChoosesFirst g ws X i k c =
     Wanted g ws i X → k ≤ length ws → (t : Reads g X (between i k ws)) → Least t → Chooses c i t.reading.by t.reading.children
-
--- the grammar is that of a sound book
-abbrev pub OfSoundBook : Grammar → Type 0
-OfSoundBook g = (b : SoundBook) × ((sound_meaning b).grammar ≡ g)
 
 -- a rule of the part has a finished item from i to k
 pub record Finishes (g : Grammar) (ws : List Word) (X i k r : ℕ) : Type 0 where

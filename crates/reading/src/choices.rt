@@ -1,10 +1,10 @@
 // The choice that gives the first reading, told by the items of the chart.
 ghost use Rattle.std.specs.Prelude.{◌≡◌, ℕ, ◌≤◌, IsTrue, ◌↔◌, MatchOption};
 ghost use Rattle.language.specs.Chart.{Held};
-ghost use Rattle.chart.specs.States.{words};
-ghost use Rattle.reading.specs.Choices.{BeginFirst, ChoosesFirst, EarliestBegin, Finishes, LowestRule, OfSoundBook, PartBegins};
+ghost use Rattle.draft.specs.States.{grammar, words};
+ghost use Rattle.reading.specs.Choices.{BeginFirst, ChoosesFirst, EarliestBegin, Finishes, LowestRule, PartBegins};
 
-use chart::{Draft, Item};
+use draft::{Draft, Item};
 use rulebook::Book;
 
 // The last symbol that can be a part: those past it are keys.
@@ -30,14 +30,14 @@ impl Choice {
 
 // Whether an item stands in the chart.
 fn stands(draft: &Draft, item: Item) -> bool
-    ensures { IsTrue result ↔ Held draft.now.grammar (words draft.now) item.rule item.done item.start item.end }
+    ensures { IsTrue result ↔ Held (grammar draft.now) (words draft.now) item.rule item.done item.start item.end }
 {
     draft.column(item.end).contains(&item)
 }
 
 // Whether a rule of a part has a finished item over the words from start to end.
 fn finishes(draft: &Draft, part: u16, start: u16, end: u16, rule: u16) -> bool
-    ensures { IsTrue result ↔ Finishes draft.now.grammar (words draft.now) part start end rule }
+    ensures { IsTrue result ↔ Finishes (grammar draft.now) (words draft.now) part start end rule }
 {
     let book = draft.book();
     let finished = Item {
@@ -51,8 +51,7 @@ fn finishes(draft: &Draft, part: u16, start: u16, end: u16, rule: u16) -> bool
 
 // The lowest rule that does.
 fn lowest_rule(draft: &Draft, part: u16, start: u16, end: u16) -> Option<u16>
-    ensures book { OfSoundBook draft.now.grammar }
-    ensures found { let g = draft.now.grammar in let ws = words draft.now in MatchOption result ((q : ℕ) → Finishes g ws part start end q → ⊥) (LowestRule g ws part start end) }
+    ensures { let g = grammar draft.now in let ws = words draft.now in MatchOption result ((q : ℕ) → Finishes g ws part start end q → ⊥) (LowestRule g ws part start end) }
 {
     for rule in 1..=draft.book().rules() {
         if finishes(draft, part, start, end, rule) {
@@ -64,7 +63,7 @@ fn lowest_rule(draft: &Draft, part: u16, start: u16, end: u16) -> Option<u16>
 
 // Whether the child at a place of a rule that starts after start, a part that ends at end, may begin after begin.
 fn begins(draft: &Draft, rule: u16, place: u16, start: u16, end: u16, begin: u16) -> bool
-    ensures { IsTrue result ↔ PartBegins draft.now.grammar (words draft.now) rule place start end begin }
+    ensures { IsTrue result ↔ PartBegins (grammar draft.now) (words draft.now) rule place start end begin }
 {
     let before = Item {
         rule,
@@ -78,7 +77,7 @@ fn begins(draft: &Draft, rule: u16, place: u16, start: u16, end: u16, begin: u16
 
 // Where that child begins earliest; a key begins one word before its end.
 fn earliest_begin(draft: &Draft, rule: u16, place: u16, start: u16, end: u16) -> u16
-    ensures { (b : ℕ) → EarliestBegin draft.now.grammar (words draft.now) rule place start end b → result ≡ b }
+    ensures { (b : ℕ) → EarliestBegin (grammar draft.now) (words draft.now) rule place start end b → result ≡ b }
 {
     if draft.book().symbol(rule, place) > LAST_PART {
         return end.saturating_sub(1);
@@ -94,7 +93,7 @@ fn earliest_begin(draft: &Draft, rule: u16, place: u16, start: u16, end: u16) ->
 // Where the children of a rule begin, from the last leftwards each as early as it can, if the rule starts after start and its
 // children end at end.
 fn beginnings(draft: &Draft, rule: u16, start: u16, end: u16) -> [u16; MOST_SYMBOLS]
-    ensures { BeginFirst draft.now.grammar (words draft.now) rule start end result }
+    ensures { BeginFirst (grammar draft.now) (words draft.now) rule start end result }
 {
     let mut begins = [start; MOST_SYMBOLS];
     let mut until = end;
@@ -107,7 +106,7 @@ fn beginnings(draft: &Draft, rule: u16, start: u16, end: u16) -> [u16; MOST_SYMB
 
 // The choice of the first reading of a part over the words from start to end, if it may start there and reads them.
 pub(super) fn choose(draft: &Draft, part: u16, start: u16, end: u16) -> Choice
-    ensures { ChoosesFirst draft.now.grammar (words draft.now) part start end result }
+    ensures { ChoosesFirst (grammar draft.now) (words draft.now) part start end result }
 {
     let rule = lowest_rule(draft, part, start, end).unwrap_or(0);
     Choice {

@@ -1,14 +1,14 @@
 // The walk that tells the moves of the first reading, the last first.
 ghost use Rattle.std.specs.Prelude.{◌≡◌, ℕ, ◌+◌, ◌<◌, ◌≤◌, List, [], ◌∷◌, ◌++◌, length, take, drop, MatchOption};
 ghost use Rattle.language.specs.Moves.{behind};
-ghost use Rattle.chart.specs.States.{words};
+ghost use Rattle.draft.specs.States.{grammar, words};
 ghost use Rattle.reading.specs.Stacks.{places, stacked, SameRoom};
 ghost use Rattle.reading.specs.Walks.{behind_moves, shortened, OpensFirst, Owed};
 
 use super::choices::{Choice, LAST_PART, choose};
 use super::machines::{MOVE, REMOVE};
 use super::stacks::{Blank, Stack};
-use chart::Draft;
+use draft::Draft;
 use rulebook::Book;
 
 // The most rules that are open at a time: each has a word of its own that is still to come.
@@ -110,7 +110,7 @@ fn shorten(stack: &mut Stack<Open>, span: Open, place: u16, begin: u16)
 
 // Opens the rule of the first reading of a part over the words from start to end.
 pub(super) fn opened(draft: &Draft, part: u16, start: u16, end: u16) -> Open
-    ensures { OpensFirst draft.now.grammar (words draft.now) part start end result }
+    ensures { OpensFirst (grammar draft.now) (words draft.now) part start end result }
 {
     let choice = choose(draft, part, start, end);
     Open {
@@ -130,11 +130,11 @@ fn mark(rule: u16, place: u16) -> u8
 
 // Tells what stands behind the last child that is still to come, which is then come: of a part the rule is opened.
 fn next(draft: &Draft, stack: &mut Stack<Open>) -> Option<Behind>
-    requires owed { (ns : List ℕ) × Owed draft.now.grammar (words draft.now) (stacked stack.old) ns }
+    requires owed { (ns : List ℕ) × Owed (grammar draft.now) (words draft.now) (stacked stack.old) ns }
     requires few { length (words draft.now) ≤ 100 }
     requires places { places stack.old ≡ 100 }
     ensures room { SameRoom stack.old stack.new }
-    ensures told { let g = draft.now.grammar in let ws = words draft.now in (ns : List ℕ) → Owed g ws (stacked stack.old) ns → MatchOption result (ns ≡ []) (λ b. (before : List ℕ) × Owed g ws (stacked stack.new) before × (ns ≡ before ++ behind_moves b)) }
+    ensures told { let g = grammar draft.now in let ws = words draft.now in (ns : List ℕ) → Owed g ws (stacked stack.old) ns → MatchOption result (ns ≡ []) (λ b. (before : List ℕ) × Owed g ws (stacked stack.new) before × (ns ≡ before ++ behind_moves b)) }
 {
     let book = draft.book();
     let span = stack.pop()?;
@@ -152,9 +152,9 @@ fn next(draft: &Draft, stack: &mut Stack<Open>) -> Option<Behind>
 
 // How many moves a reading has, of which the top rule is opened.
 pub(super) fn count(draft: &Draft, top: Open) -> usize
-    requires owed { (ns : List ℕ) × Owed draft.now.grammar (words draft.now) (top ∷ []) ns × (length ns + 2 ≤ 12836) }
+    requires owed { (ns : List ℕ) × Owed (grammar draft.now) (words draft.now) (top ∷ []) ns × (length ns + 2 ≤ 12836) }
     requires few { length (words draft.now) ≤ 100 }
-    ensures { (ns : List ℕ) → Owed draft.now.grammar (words draft.now) (top ∷ []) ns → result ≡ length ns + 2 }
+    ensures { (ns : List ℕ) → Owed (grammar draft.now) (words draft.now) (top ∷ []) ns → result ≡ length ns + 2 }
 {
     let mut room = [Open::BLANK; MOST_OPEN];
     let mut stack = Stack::over(&mut room);
@@ -168,10 +168,10 @@ pub(super) fn count(draft: &Draft, top: Open) -> usize
 
 // Writes them, as many as there are, to the front of the strip, the last first.
 pub(super) fn write(draft: &Draft, top: Open, strip: &mut [u8], moves: usize)
-    requires owed { (ns : List ℕ) × Owed draft.now.grammar (words draft.now) (top ∷ []) ns × (moves ≡ length ns + 2) }
+    requires owed { (ns : List ℕ) × Owed (grammar draft.now) (words draft.now) (top ∷ []) ns × (moves ≡ length ns + 2) }
     requires few { length (words draft.now) ≤ 100 }
     requires room { moves ≤ length strip.old }
-    ensures { (ns : List ℕ) → Owed draft.now.grammar (words draft.now) (top ∷ []) ns → moves ≡ length ns + 2 → strip.new ≡ ns ++ (0 ∷ 129 ∷ drop moves strip.old) }
+    ensures { (ns : List ℕ) → Owed (grammar draft.now) (words draft.now) (top ∷ []) ns → moves ≡ length ns + 2 → strip.new ≡ ns ++ (0 ∷ 129 ∷ drop moves strip.old) }
 {
     let mut room = [Open::BLANK; MOST_OPEN];
     let mut stack = Stack::over(&mut room);

@@ -4,11 +4,9 @@
 mod books;
 mod faults;
 mod kinds;
-mod presses;
 mod sets;
 
 pub use books::{Book, item_or, place_of};
 pub use faults::Fault;
 pub use kinds::{KeyKind, UnknownKind};
-pub use presses::press_theorem;
 pub use sets::SymbolSet;

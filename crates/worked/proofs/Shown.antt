@@ -4,13 +4,16 @@ use denote.Floats.{is_true}
 use Rattle.std.specs.List.{AllByRecursion}
 use Rattle.std.proofs.lemmas.Bool.{and_parts, and_from, eqb-true, eq-eqb, both_ways, not-true}
 use Rattle.std.proofs.lemmas.Float.{T_from_true}
-use Rattle.language.specs.Book.{Grammar, Numbered, left, size}
+use Rattle.language.specs.Book.{Grammar, Meaning, Numbered, left, size}
 use Rattle.language.specs.Words.{Word}
 use Rattle.language.specs.Readings.{Item, item}
 use Rattle.language.specs.Machine.{is_key}
 use Rattle.language.specs.Chart.{Whole, Wanted, Held, HeldItem, Spans}
 use Rattle.language.specs.Columns.{Among, Apart}
-use Rattle.language.specs.Drafts.{Items, Lit, LitKeys, MatchesLit}
+use Rattle.language.specs.Sound.{Sound}
+use Rattle.language.specs.Drafts.{Items, Lit, LitKeys}
+use Rattle.language.proofs.Chart.Theorem.{chart_theorem}
+use Rattle.draft.specs.Law.{Matches}
 use Rattle.worked.proofs.Check.{any, every, any_member, member_any, every_member, has, has_among}
 use Rattle.language.proofs.Members.{all_among}
 use Rattle.language.proofs.Tests.{key_test, test_key}
@@ -115,9 +118,9 @@ module _ (g : Grammar) (ws : List Word) (ts : List Item) (Ns : List (List ℕ)) 
         (and_from (eqb 0 0) (eqb (length ws) (length ws)) refl (eq-eqb (length ws) (length ws) refl)))))
 
 -- a word that matches none of the lit keys
-pub matches_none : (g : Grammar) (ws : List Word) (w : Word) (cs : List ℕ) → LitKeys g ws cs → every (λ c. not (w c)) cs ≡ true → MatchesLit g ws w → ⊥
-matches_none g ws w cs l h b = both_ways (w b.key) (not-true _ (every_member (λ c. not (w c)) cs b.key h ((l b.key).1 b.lit))) (is_true _ b.matches)
+pub matches_none : (m : Meaning) → Sound m → (ws : List Word) (w : Word) (cs : List ℕ) → LitKeys m.grammar ws cs → every (λ c. not (w c)) cs ≡ true → Matches m.grammar ws w → ⊥
+matches_none m sound ws w cs l h b = both_ways (w b.key) (not-true _ (every_member (λ c. not (w c)) cs b.key h ((l b.key).1 (((chart_theorem m sound ws).lit b.key).1 b.follows)))) (is_true _ b.matches)
 
 -- a word that matches the lit key c
-pub matches : (g : Grammar) (ws : List Word) (w : Word) (cs : List ℕ) (c : ℕ) → LitKeys g ws cs → has c cs ≡ true → w c ≡ true → MatchesLit g ws w
-matches g ws w cs c l h m = record { key = c; lit = (l c).0 (has_among c cs h); matches = T_from_true _ m }
+pub matches : (m : Meaning) → Sound m → (ws : List Word) (w : Word) (cs : List ℕ) (c : ℕ) → LitKeys m.grammar ws cs → has c cs ≡ true → w c ≡ true → Matches m.grammar ws w
+matches m sound ws w cs c l h b = record { key = c; follows = ((chart_theorem m sound ws).lit c).0 ((l c).0 (has_among c cs h)); matches = T_from_true _ b }

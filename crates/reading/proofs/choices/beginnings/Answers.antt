@@ -1,10 +1,10 @@
 use Rattle.std.proofs.Common.{◌≡◌, ◌<◌, subst, arith}
-use Rattle.reading.proofs.Choosing.{few_symbols}
+use Rattle.reading.proofs.Choosing.{same_rules, few_symbols}
 use Rattle.reading.proofs.Placing.{Placed, placed_first, placed_start, placed_next}
 use Rattle.reading.proofs.choices.beginnings.Goals as goal
 
 pub loop-place-init : goal.loop-place-init
-loop-place-init c = λ ks all many ends. placed_start c.book.result.now _ c.book.ensures _ _ _ ks all _ _ c.size-place.ensures many ends
+loop-place-init c = λ ks all many ends. placed_start c.book.result.now _ (same_rules c.book.ensures) _ _ _ ks all _ _ c.size-place.ensures many ends
 
 pub bounds-begins-from : goal.bounds-begins-from
 bounds-begins-from c = omega (arith, c.from.ensures, c.loop-place-test.true, c.loop-place.auto.place, c.size-place.ensures, few_symbols c.book.result.now c.args.rule)
@@ -12,7 +12,7 @@ bounds-begins-from c = omega (arith, c.from.ensures, c.loop-place-test.true, c.l
 pub loop-place-preserved : goal.loop-place-preserved
 loop-place-preserved c = λ ks all many ends.
     let small : c.from.result < 6 = omega (arith, c.from.ensures, c.loop-place-test.true, c.loop-place.auto.place, c.size-place.ensures, few_symbols c.book.result.now c.args.rule) in
-    placed_next c.book.result.now _ c.book.ensures _ _ _ ks all _ _ _ _ _ (c.loop-place.invariant ks all many ends) c.loop-place-test.true c.from.ensures small c.earliest_begin-until.ensures
+    placed_next c.book.result.now _ (same_rules c.book.ensures) _ _ _ ks all _ _ _ _ _ (c.loop-place.invariant ks all many ends) c.loop-place-test.true c.from.ensures small c.earliest_begin-until.ensures
 
 pub returns : goal.returns
 returns c = λ ks all many ends.

@@ -6,6 +6,7 @@ use Rattle.chart.specs.Items.{told}
 use Rattle.chart.specs.States.{opened}
 use Rattle.chart.proofs.Changing.{opened_seen}
 use Rattle.chart.proofs.Keeping.{kept_opened}
+use Rattle.chart.proofs.Seen.{stands}
 use Rattle.chart.proofs.drafts.Draft.open.Goals as goal
 
 pub invariant_of-result : goal.invariant_of-result
@@ -14,7 +15,14 @@ invariant_of-result c =
     (subst (λ (b : Bor SoundBook). IndexOf (sound_meaning b.now).grammar c.of.result.index) (sym c.of.ensures.book) c.of.ensures.index)
     c.of.ensures.records c.of.ensures.held c.over.ensures
 
-pub returns : goal.returns
-returns c =
+pub returns-clause-opened : goal.returns-clause-opened
+returns-clause-opened c =
     opened_seen c.of.result c.over.result c.args.chart.items c.of.ensures.records c.of.ensures.held c.over.ensures
-    ∙ ap (λ (b : Bor SoundBook). opened (sound_meaning b.now).grammar (map told c.args.chart.items)) c.of.ensures.book
+    ∙ ap (λ (b : Bor SoundBook). opened b.now (map told c.args.chart.items)) c.of.ensures.book
+
+pub returns-clause-stands : goal.returns-clause-stands
+returns-clause-stands c =
+    stands c.of.result c.over.result
+    (kept_opened c.of.result c.over.result c.args.chart.items
+    (subst (λ (b : Bor SoundBook). IndexOf (sound_meaning b.now).grammar c.of.result.index) (sym c.of.ensures.book) c.of.ensures.index)
+    c.of.ensures.records c.of.ensures.held c.over.ensures)

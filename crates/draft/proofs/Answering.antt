@@ -1,0 +1,165 @@
+-- What the chart answers, said of programmes and their readings.
+use Rattle.std.proofs.Common.{◌≡◌, ℕ, ◌-◌, ◌<◌, ◌≤◌, ◌↔◌, ◌&&◌, false, IsTrue, List, [], ◌∷◌, ◌++◌, map, length, get_or, take, refl, sym, ap, ◌∙◌, subst, arith}
+use Rattle.std.specs.Prelude.{Result, Ok, Err, MatchResult}
+use Rattle.std.proofs.lemmas.List.{length-take-le, take-set, map_more}
+use Rattle.std.proofs.lemmas.Bool.{both_ways, and_from, and_parts}
+use Rattle.std.proofs.lemmas.Float.{T_from_true}
+use Rattle.language.specs.Book.{Meaning}
+use Rattle.language.specs.Sound.{Sound}
+use Rattle.language.specs.Words.{Word}
+use Rattle.language.specs.Readings.{Item, Programme}
+use Rattle.language.specs.Chart.{HeldItem, Whole}
+use Rattle.language.specs.Columns.{Among}
+use Rattle.language.specs.Drafts.{Items}
+use Rattle.language.proofs.Chart.Theorem.{chart_theorem}
+use Rattle.language.proofs.Members.{all_among}
+use Rattle.language.proofs.Pigeonhole.{no_more}
+use Rattle.rulebook.specs.Sets.{has}
+use Rattle.rulebook.specs.declared.faults.Fault.{Fault}
+use Rattle.rulebook.specs.declared.faults.Fault.TheVariants.{DraftFull, DarkWord, ChartFull}
+use Rattle.rulebook.specs.declared.sets.SymbolSet.{SymbolSet}
+use Rattle.soundbook.specs.Sounds.{sound_meaning}
+use Rattle.wording.specs.declared.pressed.Matched.{Matched}
+use Rattle.chart.specs.Overflow.{Outnumber}
+use Rattle.chart.specs.Takings.{Taken, NotTaken}
+use Rattle.chart.specs.Calls.{RubbedOut as InnerRubbedOut, NotRubbedOut as InnerNotRubbedOut, LitIs as InnerLitIs, ColumnIs as InnerColumnIs}
+use Rattle.chart.specs.States.{State as Inner, WordRecord, Stands, grammar as rules_of, words as held_words, in_use as standing, no_word, before}
+use Rattle.chart.specs.declared.drafts.LitSet.{LitSet}
+use Rattle.chart.proofs.Following.{passed_test}
+use Rattle.chart.proofs.Pressing.{some_held}
+use Rattle.draft.specs.States.{grammar, words}
+use Rattle.draft.specs.Law.{MayFollow, Matches, Fit, WordNotTaken, Pressed, NotPressed, RubbedOut, NotRubbedOut, LitIs}
+use Rattle.draft.specs.Schema.{ColumnIs}
+use Rattle.draft.specs.Views.{state_of}
+use Rattle.draft.proofs.Showing.{sound_of, words_seen, items_over, places_long, words_long, same_chart, same_front}
+
+-- items that fit do not outnumber the places
+pub not_both : (m : Meaning) → Sound m → (places : ℕ) (ws : List Word) → Fit m.grammar places ws → Outnumber m.grammar places ws → ⊥
+not_both m sound places ws fit o =
+    omega (arith, fit.few, o.more, no_more o.items fit.items o.apart (λ t a. (fit.over.exact t).1 (((chart_theorem m sound ws).items t.rule t.done t.start t.end).0 (all_among (HeldItem m.grammar ws) o.items t o.held a))))
+
+-- of a draft, told by its chart
+module _ (i : Inner) (stands : Stands i) where
+  -- lit
+  pub lit_seen : (l : LitSet) → InnerLitIs i l → LitIs (state_of i) l
+  lit_seen l lit = record {
+    keys = λ c.
+        subst (λ ws. IsTrue (has l.keys c) ↔ MayFollow (rules_of i) ws c) (sym (words_seen i))
+        (let lights = (chart_theorem (sound_meaning i.book) (sound_of i) (held_words i)).lit c in
+        (λ h. lights.0 ((lit.keys c).0 h), λ h. (lit.keys c).1 (lights.1 h)));
+    count = lit.count;
+  }
+
+  -- press: 100 words are held
+  pub full_seen : (w : Word) (h : ℕ) → h ≡ i.held → 100 ≤ h → NotPressed (state_of i) (state_of i) w (DraftFull h)
+  full_seen w h e l = record {
+    refused = subst (λ x. WordNotTaken (rules_of i) (length (state_of i).places) (words (state_of i)) w (DraftFull x)) (words_long i stands ∙ sym e) (WordNotTaken.full (omega (arith, words_long i stands, e, l)));
+    same = refl;
+  }
+
+  -- the keys that may follow, those of the word, and those of both
+  module _ (w : Word) (l : LitSet) (lit : InnerLitIs i l) (m : Matched) (tells : (c : ℕ) → has m.keys c ≡ w c) (word : SymbolSet) (of_word : word ≡ m.keys) (both : SymbolSet) (common : (c : ℕ) → has both c ≡ (has l.keys c && has word c)) where
+    holds_word : (c : ℕ) → has word c ≡ w c
+    holds_word c = ap (λ (s : SymbolSet). has s c) of_word ∙ tells c
+
+    pub no_match : ((c : ℕ) → has both c ≡ false) → Matches (grammar (state_of i)) (words (state_of i)) w → ⊥
+    no_match none x = both_ways _ (none x.key) (common x.key ∙ and_from _ _ (((lit_seen l lit).keys x.key).1 x.follows) (holds_word x.key ∙ passed_test _ x.matches))
+
+    pub some_match : (((c : ℕ) → has both c ≡ false) → ⊥) → Matches (grammar (state_of i)) (words (state_of i)) w
+    some_match some =
+        let x = some_held both some in
+        let parts = and_parts (has l.keys x.0) (has word x.0) (sym (common x.0) ∙ x.1) in
+        record { key = x.0; follows = ((lit_seen l lit).keys x.0).0 parts.0; matches = T_from_true _ (sym (holds_word x.0) ∙ parts.1) }
+
+  -- it matches none
+  pub dark_seen : (w : Word) (h : ℕ) → h ≡ i.held → h < 100 → (Matches (grammar (state_of i)) (words (state_of i)) w → ⊥) → NotPressed (state_of i) (state_of i) w (DarkWord h)
+  dark_seen w h e l none = record {
+    refused = subst (λ x. WordNotTaken (rules_of i) (length (state_of i).places) (words (state_of i)) w (DarkWord x)) (words_long i stands ∙ sym e) (WordNotTaken.dark (omega (arith, words_long i stands, e, l)) none);
+    same = refl;
+  }
+
+  -- either way the chart stands
+  pub stands_then : (j : Inner) (w : Word) (r : Result ℕ Fault) → MatchResult r (Taken i j w) (NotTaken i j w) → Stands j
+  stands_then j w (Ok n) t = t.stands
+  stands_then j w (Err f) t = subst Stands (sym t.same) t.stands
+
+  -- it matches one, and its items fit, or they do not
+  module _ (j : Inner) (w : Word) (room : i.held < 100) (match : Matches (grammar (state_of i)) (words (state_of i)) w) where
+    pub taken_seen : (n : ℕ) → Taken i j w n → Pressed (state_of i) (state_of j) w n
+    taken_seen n t =
+        let same = same_chart j i t.stands stands t.before in
+        record {
+          taken = record {
+            room = omega (arith, words_long i stands, room);
+            matches = match;
+            fits = record {
+              items = standing j;
+              over =
+                  items_over (sound_meaning i.book) (sound_of i) (words (state_of i) ++ (w ∷ [])) (standing j)
+                  (subst (λ ws. Items (rules_of i) ws (standing j)) (t.words ∙ ap (λ ws. ws ++ (w ∷ [])) (sym (words_seen i)))
+                  (subst (λ g. Items g (held_words j) (standing j)) (ap rules_of t.before) t.stands.items));
+              few = omega (arith, length-take-le j.used j.places (omega (arith, t.stands.fits, t.stands.budget)), t.stands.fits, t.budget, places_long i stands);
+            };
+          };
+          words = words_seen j ∙ (t.words ∙ ap (λ ws. ws ++ (w ∷ [])) (sym (words_seen i)));
+          stay = same_front j i t.stands stands t.before;
+          same = record { book = sym same.book; long = sym same.long; beyond = sym same.beyond };
+          answer = t.answer;
+        }
+
+    pub crowded_seen : (f : Fault) → NotTaken i j w f → NotPressed (state_of i) (state_of j) w f
+    crowded_seen f t = record {
+      refused =
+          subst (WordNotTaken (rules_of i) (length (state_of i).places) (words (state_of i)) w) (ap ChartFull (words_long i stands) ∙ sym t.fault)
+          (WordNotTaken.crowded (omega (arith, words_long i stands, room)) match (λ fit.
+          not_both (sound_meaning i.book) (sound_of i) i.budget (held_words i ++ (w ∷ []))
+          (subst (λ n. Fit (rules_of i) n (held_words i ++ (w ∷ []))) (places_long i stands) (subst (λ ws. Fit (rules_of i) (length (state_of i).places) (ws ++ (w ∷ []))) (words_seen i) fit)) t.more));
+      same = ap state_of t.same;
+    }
+
+    pub press_seen : (r : Result ℕ Fault) → MatchResult r (Taken i j w) (NotTaken i j w) → MatchResult r (Pressed (state_of i) (state_of j) w) (NotPressed (state_of i) (state_of j) w)
+    press_seen (Ok n) t = taken_seen n t
+    press_seen (Err f) t = crowded_seen f t
+
+  -- rub out
+  last : Word
+  last = has (get_or i.records (i.held - 1) no_word).keys
+
+  words_less : 1 ≤ i.held → held_words i ≡ held_words (before i) ++ (last ∷ [])
+  unfolding last
+  words_less one =
+      ap (λ n. map (λ (r : WordRecord). has r.keys) (take n i.records)) (omega (arith, one))
+      ∙ (map_more (λ (r : WordRecord). has r.keys) i.records (i.held - 1) no_word (omega (arith, one, stands.few, stands.many))
+      ∙ ap (λ rs. map (λ (r : WordRecord). has r.keys) rs ++ (last ∷ [])) (sym (take-set i.records (i.held - 1) no_word)))
+
+  none_held : {A : Type 0} (xs : List A) → length xs ≡ 0 → xs ≡ []
+  none_held [] none = refl
+  none_held (x ∷ xs) none = absurd (omega (arith, none))
+
+  pub rubbed_seen : (j : Inner) → Stands j → (r : Result ℕ Fault) → MatchResult r (InnerRubbedOut i j) (InnerNotRubbedOut i j) → MatchResult r (RubbedOut (state_of i) (state_of j)) (NotRubbedOut (state_of i) (state_of j))
+  rubbed_seen j now (Ok n) p = record {
+    last = last;
+    words = words_seen i ∙ (words_less p.some ∙ ap (λ ws. ws ++ (last ∷ [])) (ap held_words (sym p.before) ∙ sym (words_seen j)));
+    stay = sym (same_front i j stands now (sym p.before));
+    same = same_chart i j stands now (sym p.before);
+    answer = p.answer;
+  }
+  rubbed_seen j now (Err f) p = record {
+    none = none_held (words (state_of i)) (words_long i stands ∙ p.none);
+    fault = p.fault;
+    same = ap state_of p.same;
+  }
+
+  -- whole
+  pub whole_seen : (b : Type 0) → b ↔ Whole (rules_of i) (held_words i) → b ↔ Programme (grammar (state_of i)) (words (state_of i))
+  whole_seen b whole =
+      subst (λ ws. b ↔ Programme (grammar (state_of i)) ws) (sym (words_seen i))
+      (let all = (chart_theorem (sound_meaning i.book) (sound_of i) (held_words i)).whole in
+      (λ h. all.0 (whole.0 h), λ h. whole.1 (all.1 h)))
+
+  -- the items that end at a word
+  pub column_seen : (k : ℕ) (ts : List Item) → InnerColumnIs i k ts → ColumnIs (state_of i) k ts
+  column_seen k ts c = record {
+    items = λ t. subst (λ ws. Among t ts ↔ (HeldItem (rules_of i) ws t × (t.end ≡ k))) (sym (words_seen i)) (c.items t);
+    apart = c.apart;
+  }

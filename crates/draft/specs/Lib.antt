@@ -1,0 +1,4 @@
+pub mod Law
+pub mod Schema
+pub mod States
+pub mod Views
