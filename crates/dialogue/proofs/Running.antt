@@ -5,14 +5,14 @@ use Rattle.language.specs.Readings.{Item}
 use Rattle.rulebook.specs.declared.faults.Fault.{Fault}
 use Rattle.soundbook.specs.declared.sounds.SoundBook.{SoundBook}
 use Rattle.chart.specs.declared.drafts.LitSet.{LitSet}
-use Rattle.draft.specs.Law.{Shows, SameChart}
-use Rattle.draft.specs.States.{State, opened}
+use Rattle.draft.specs.Law.{IsLawful, SameChart}
+use Rattle.draft.specs.States.{DraftState, opened}
 use Rattle.reading.specs.declared.readings.Written.{Written}
 use Rattle.dialogue.specs.declared.calls.Call.{Call}
 use Rattle.dialogue.specs.declared.calls.Call.TheVariants.{Press, RubOut, Lit, Whole, Reading}
 use Rattle.dialogue.specs.declared.calls.Answer.{Answer}
 use Rattle.dialogue.specs.declared.calls.Answer.TheVariants.{Items, Keys, Yes, Moves, Refused}
-use Rattle.dialogue.specs.Runs.{Moment, moment_of, CallLaw, Law, call_at, answer_at}
+use Rattle.dialogue.specs.Runs.{RunState, run_state, CallLaw, RunLaw, call_at, answer_at}
 use Rattle.dialogue.proofs.Chaining.{Chain, none, more}
 
 -- an answer that gives something is no refusal
@@ -28,12 +28,12 @@ yes_given b f a e r = let z : Yes b ≡ Refused f = sym e ∙ r in cc
 moves_given : (w : Written) (f : Fault) (a : Answer) → a ≡ Moves w → a ≡ Refused f → ⊥
 moves_given w f a e r = let z : Moves w ≡ Refused f = sym e ∙ r in cc
 
--- moments of one draft and one strip are one
-alike : (m n : Moment) → n.draft ≡ m.draft → n.strip ≡ m.strip → n ≡ m
+-- states of one draft and one strip are one
+alike : (m n : RunState) → n.draft ≡ m.draft → n.strip ≡ m.strip → n ≡ m
 alike m n d s = λ i. record { draft = d i; strip = s i }
 
 -- a refused call changes nothing
-refused_same : (m n : Moment) (c : Call Word) (a : Answer) → CallLaw m c a n → (f : Fault) → a ≡ Refused f → n ≡ m
+refused_same : (m n : RunState) (c : Call Word) (a : Answer) → CallLaw m c a n → (f : Fault) → a ≡ Refused f → n ≡ m
 refused_same m n (Press w) a (inl (k, p, is), s) f r = absurd (items_taken k f a is r)
 refused_same m n (Press w) a (inr (h, p, is), s) f r = alike m n p.same s
 refused_same m n RubOut a (inl (k, p, is), s) f r = absurd (items_taken k f a is r)
@@ -44,40 +44,40 @@ refused_same m n Reading a (inl (w, p, is), d) f r = absurd (moves_given w f a i
 refused_same m n Reading a (inr (h, p, is), d) f r = alike m n d p.1
 
 -- a call leaves the book, the number of places and all past them
-over_too : (d e : State) → e ≡ d → SameChart d e
-over_too d e same = record { book = ap (λ (x : State). x.book) same; long = ap (λ (x : State). length x.places) same; beyond = ap (λ (x : State). x.beyond) same }
+over_too : (d e : DraftState) → e ≡ d → SameChart d e
+over_too d e same = record { book = ap (λ (x : DraftState). x.book) same; long = ap (λ (x : DraftState). length x.places) same; beyond = ap (λ (x : DraftState). x.beyond) same }
 
-same_chart : (m n : Moment) (c : Call Word) (a : Answer) → CallLaw m c a n → SameChart m.draft n.draft
+same_chart : (m n : RunState) (c : Call Word) (a : Answer) → CallLaw m c a n → SameChart m.draft n.draft
 same_chart m n (Press w) a (inl (k, p, is), s) = p.same
 same_chart m n (Press w) a (inr (h, p, is), s) = over_too m.draft n.draft p.same
 same_chart m n RubOut a (inl (k, p, is), s) = p.same
 same_chart m n RubOut a (inr (h, p, is), s) = over_too m.draft n.draft p.same
-same_chart m n Lit a (lit, same) = over_too m.draft n.draft (ap (λ (x : Moment). x.draft) same)
-same_chart m n Whole a (whole, same) = over_too m.draft n.draft (ap (λ (x : Moment). x.draft) same)
+same_chart m n Lit a (lit, same) = over_too m.draft n.draft (ap (λ (x : RunState). x.draft) same)
+same_chart m n Whole a (whole, same) = over_too m.draft n.draft (ap (λ (x : RunState). x.draft) same)
 same_chart m n Reading a (read, d) = over_too m.draft n.draft d
 
-further : (c d e : State) → SameChart c d → SameChart d e → SameChart c e
+further : (c d e : DraftState) → SameChart c d → SameChart d e → SameChart c e
 further c d e p q = record { book = q.book ∙ p.book; long = q.long ∙ p.long; beyond = q.beyond ∙ p.beyond }
 
--- one moment, and then others
-abbrev then : Moment → (ℕ → Moment) → ℕ → Moment
+-- one state, and then others
+abbrev then : RunState → (ℕ → RunState) → ℕ → RunState
 then x next zero = x
 then x next (suc k) = next k
 
--- the law of calls from any moment to a later one, of a draft over a chart that was lent so
-record Ran (first : State) (start : Moment) (calls : List (Call Word)) (answers : List Answer) (end : Moment) : Type 0 where
-  moment : ℕ → Moment
+-- the law of calls from any state to a later one, of a draft over a chart that was lent so
+record Ran (first : DraftState) (start : RunState) (calls : List (Call Word)) (answers : List Answer) (end : RunState) : Type 0 where
+  state : ℕ → RunState
   answered : length answers ≡ length calls
-  begins : moment 0 ≡ start
-  shows : (k : ℕ) → k ≤ length calls → Shows (moment k).draft
-  same : (k : ℕ) → k ≤ length calls → SameChart first (moment k).draft
-  call : (k : ℕ) → k < length calls → CallLaw (moment k) (call_at calls k) (answer_at answers k) (moment (suc k))
-  ends : moment (length calls) ≡ end
+  begins : state 0 ≡ start
+  shows : (k : ℕ) → k ≤ length calls → IsLawful (state k).draft
+  same : (k : ℕ) → k ≤ length calls → SameChart first (state k).draft
+  call : (k : ℕ) → k < length calls → CallLaw (state k) (call_at calls k) (answer_at answers k) (state (suc k))
+  ends : state (length calls) ≡ end
 
-module _ (first : State) where
-  ran_none : (m : Moment) → Shows m.draft → SameChart first m.draft → Ran first m [] [] m
+module _ (first : DraftState) where
+  ran_none : (m : RunState) → IsLawful m.draft → SameChart first m.draft → Ran first m [] [] m
   ran_none m shows same = record {
-    moment = λ k. m;
+    state = λ k. m;
     answered = refl;
     begins = refl;
     shows = λ k l. shows;
@@ -86,25 +86,25 @@ module _ (first : State) where
     ends = refl;
   }
 
-  module _ (m n : Moment) (c : Call Word) (a : Answer) (calls : List (Call Word)) (answers : List Answer) (end : Moment) (shows : Shows m.draft) (same : SameChart first m.draft) (law : CallLaw m c a n) (rest : Ran first n calls answers end) where
-    abbrev moments : ℕ → Moment
-    moments = then m rest.moment
+  module _ (m n : RunState) (c : Call Word) (a : Answer) (calls : List (Call Word)) (answers : List Answer) (end : RunState) (shows : IsLawful m.draft) (same : SameChart first m.draft) (law : CallLaw m c a n) (rest : Ran first n calls answers end) where
+    abbrev states : ℕ → RunState
+    states = then m rest.state
 
-    shows_each : (k : ℕ) → k ≤ length (c ∷ calls) → Shows (moments k).draft
+    shows_each : (k : ℕ) → k ≤ length (c ∷ calls) → IsLawful (states k).draft
     shows_each zero l = shows
     shows_each (suc k) l = rest.shows k (omega (arith, l))
 
-    same_each : (k : ℕ) → k ≤ length (c ∷ calls) → SameChart first (moments k).draft
+    same_each : (k : ℕ) → k ≤ length (c ∷ calls) → SameChart first (states k).draft
     same_each zero l = same
     same_each (suc k) l = rest.same k (omega (arith, l))
 
-    call_each : (k : ℕ) → k < length (c ∷ calls) → CallLaw (moments k) (call_at (c ∷ calls) k) (answer_at (a ∷ answers) k) (moments (suc k))
+    call_each : (k : ℕ) → k < length (c ∷ calls) → CallLaw (states k) (call_at (c ∷ calls) k) (answer_at (a ∷ answers) k) (states (suc k))
     call_each zero l = subst (CallLaw m c a) (sym rest.begins) law
     call_each (suc k) l = rest.call k (omega (arith, l))
 
     ran_more : Ran first m (c ∷ calls) (a ∷ answers) end
     ran_more = record {
-      moment = moments;
+      state = states;
       answered = ap suc rest.answered;
       begins = refl;
       shows = shows_each;
@@ -113,24 +113,24 @@ module _ (first : State) where
       ends = rest.ends;
     }
 
-  ran : (m n : Moment) (calls : List (Call Word)) (answers : List Answer) → Shows m.draft → SameChart first m.draft → Chain m calls answers n → Ran first m calls answers n
+  ran : (m n : RunState) (calls : List (Call Word)) (answers : List Answer) → IsLawful m.draft → SameChart first m.draft → Chain m calls answers n → Ran first m calls answers n
   ran _ _ _ _ shows same (none m) = ran_none m shows same
   ran _ _ _ _ shows same (more m n o c a calls answers law seen rest) =
       ran_more m n c a calls answers o shows same law (ran n o calls answers seen (further first m.draft n.draft same (same_chart m n c a law)) rest)
 
 -- on a new draft
-pub law_kept : (book : SoundBook) (lent : List Item) (s : List ℕ) (calls : List (Call Word)) (answers : List Answer) (last : Moment) (places : List Item) (left : List ℕ) → Shows (opened book lent)
-    → Chain (moment_of (opened book lent) s) calls answers last → last.draft.places ++ last.draft.beyond ≡ places → last.strip ≡ left → Law book lent s calls answers places left
+pub law_kept : (book : SoundBook) (lent : List Item) (s : List ℕ) (calls : List (Call Word)) (answers : List Answer) (last : RunState) (places : List Item) (left : List ℕ) → IsLawful (opened book lent)
+    → Chain (run_state (opened book lent) s) calls answers last → last.draft.places ++ last.draft.beyond ≡ places → last.strip ≡ left → RunLaw book lent s calls answers places left
 law_kept book lent s calls answers last places left shows chain back strip =
-    let r = ran (opened book lent) (moment_of (opened book lent) s) last calls answers shows (over_too (opened book lent) (opened book lent) refl) chain in
+    let r = ran (opened book lent) (run_state (opened book lent) s) last calls answers shows (over_too (opened book lent) (opened book lent) refl) chain in
     record {
-      moment = r.moment;
+      state = r.state;
       answered = r.answered;
       first = r.begins;
       shows = r.shows;
       same = r.same;
       call = r.call;
-      refused = λ k f l. refused_same (r.moment k) (r.moment (suc k)) (call_at calls k) (answer_at answers k) (r.call k l) f;
-      chart = ap (λ (m : Moment). m.draft.places ++ m.draft.beyond) r.ends ∙ back;
-      strip_left = ap (λ (m : Moment). m.strip) r.ends ∙ strip;
+      refused = λ k f l. refused_same (r.state k) (r.state (suc k)) (call_at calls k) (answer_at answers k) (r.call k l) f;
+      chart = ap (λ (m : RunState). m.draft.places ++ m.draft.beyond) r.ends ∙ back;
+      strip_left = ap (λ (m : RunState). m.strip) r.ends ∙ strip;
     }

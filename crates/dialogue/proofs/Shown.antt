@@ -19,38 +19,38 @@ use Rattle.dialogue.specs.declared.calls.Answer.{Answer}
 use Rattle.dialogue.specs.declared.calls.Answer.TheVariants.{Items, Refused}
 use Rattle.soundbook.specs.Sounds.{sound_meaning}
 use Rattle.soundbook.specs.declared.sounds.SoundBook.{SoundBook}
-use Rattle.draft.specs.Law.{MayFollow, Matches, Fit, WordTaken, WordNotTaken, full, dark, crowded}
+use Rattle.draft.specs.Law.{MayFollow, MatchesLit, ItemsFit, PressAccepts, PressRefuses, full, dark, crowded}
 use Rattle.draft.specs.States.{grammar, words}
-use Rattle.dialogue.specs.Runs.{Moment, CallLaw, Law, call_at, answer_at}
+use Rattle.dialogue.specs.Runs.{RunState, CallLaw, RunLaw, call_at, answer_at}
 use Rattle.dialogue.specs.Theorem.{presses, just, rules, KeyedWhole, LawShows, LawTheorem}
 use Rattle.dialogue.proofs.Running.{items_taken}
 
 -- a word that matches a key that may follow is not refused as dark
-reason_lit : (g : Grammar) (n : ℕ) (ws : List Word) (w : Word) (f : Fault) (held : ℕ) → WordNotTaken g n ws w f → Matches g ws w → Refused f ≡ Refused (DarkWord held) → ⊥
+reason_lit : (g : Grammar) (n : ℕ) (ws : List Word) (w : Word) (f : Fault) (held : ℕ) → PressRefuses g n ws w f → MatchesLit g ws w → Refused f ≡ Refused (DarkWord held) → ⊥
 reason_lit g n ws w _ held (full l) lit is = cc
 reason_lit g n ws w _ held (dark l none) lit is = none lit
 reason_lit g n ws w _ held (crowded l m none) lit is = cc
 
-press_lit : (old new : Moment) (w : Word) (a : Answer) (held : ℕ) → CallLaw old (Press w) a new → Matches (grammar old.draft) (words old.draft) w → a ≡ Refused (DarkWord held) → ⊥
+press_lit : (old new : RunState) (w : Word) (a : Answer) (held : ℕ) → CallLaw old (Press w) a new → MatchesLit (grammar old.draft) (words old.draft) w → a ≡ Refused (DarkWord held) → ⊥
 press_lit old new w a held law lit is = ⊎_elim
     (λ x. items_taken x.0 (DarkWord held) a x.2 is)
     (λ x. reason_lit (grammar old.draft) (length old.draft.places) (words old.draft) w x.0 held x.1.refused lit (sym x.2 ∙ is))
     law.0
 
 -- a word for which there is room, that matches and fits, is taken, since none of the reasons holds
-reason_room : (g : Grammar) (n : ℕ) (ws : List Word) (w : Word) (f : Fault) → WordNotTaken g n ws w f → WordTaken g n ws w → ⊥
+reason_room : (g : Grammar) (n : ℕ) (ws : List Word) (w : Word) (f : Fault) → PressRefuses g n ws w f → PressAccepts g n ws w → ⊥
 reason_room g n ws w _ (full l) t = omega (arith, l, t.room)
 reason_room g n ws w _ (dark l none) t = none t.matches
 reason_room g n ws w _ (crowded l m none) t = none t.fits
 
-press_taken : (old new : Moment) (w : Word) (a : Answer) → CallLaw old (Press w) a new → WordTaken (grammar old.draft) (length old.draft.places) (words old.draft) w → (a ≡ Items new.draft.used) × (words new.draft ≡ words old.draft ++ (w ∷ []))
+press_taken : (old new : RunState) (w : Word) (a : Answer) → CallLaw old (Press w) a new → PressAccepts (grammar old.draft) (length old.draft.places) (words old.draft) w → (a ≡ Items new.draft.used) × (words new.draft ≡ words old.draft ++ (w ∷ []))
 press_taken old new w a law t = ⊎_elim
     (λ x. (x.2 ∙ ap Items x.1.answer, x.1.words))
     (λ x. absurd (reason_room (grammar old.draft) (length old.draft.places) (words old.draft) w x.0 x.1.refused t))
     law.0
 
 -- the call of a number, where it is known which
-call_is : (old new : Moment) (c d : Call Word) (a : Answer) → CallLaw old c a new → c ≡ d → CallLaw old d a new
+call_is : (old new : RunState) (c d : Call Word) (a : Answer) → CallLaw old c a new → c ≡ d → CallLaw old d a new
 call_is old new c d a law is = subst (λ c. CallLaw old c a new) is law
 
 pressed_at : (keys : List ℕ) (k : ℕ) → k < length keys → call_at (presses keys) k ≡ Press (only (get_or keys k 0))
@@ -79,21 +79,21 @@ module _ (b : SoundBook) where
       (λ t. t)
       ((turned_theorem g g.start).0 (sound.productive g.start sound.formed.counts.start_part))
 
-  -- each moment of a run is one of this book, with as many places
-  module _ (lent : List Item) (strip : List ℕ) (calls : List (Call Word)) (answers : List Answer) (end : List Item) (left : List ℕ) (law : Law b lent strip calls answers end left) (k : ℕ) (l : k ≤ length calls) where
-    book_at : (law.moment k).draft.book ≡ b
+  -- each state of a run is one of this book, with as many places
+  module _ (lent : List Item) (strip : List ℕ) (calls : List (Call Word)) (answers : List Answer) (end : List Item) (left : List ℕ) (law : RunLaw b lent strip calls answers end left) (k : ℕ) (l : k ≤ length calls) where
+    book_at : (law.state k).draft.book ≡ b
     book_at = (law.same k l).book
 
-    places_at : length (law.moment k).draft.places ≡ min 60000 (length lent)
+    places_at : length (law.state k).draft.places ≡ min 60000 (length lent)
     places_at = (law.same k l).long ∙ length-replicate (min 60000 (length lent)) blank_told
 
-    of_book : (P : Grammar → ℕ → Type 0) → P (rules b) (min 60000 (length lent)) → P (grammar (law.moment k).draft) (length (law.moment k).draft.places)
-    of_book P p = subst (λ n. P (grammar (law.moment k).draft) n) (sym places_at) (subst (λ x. P (rules x) (min 60000 (length lent))) (sym book_at) p)
+    of_book : (P : Grammar → ℕ → Type 0) → P (rules b) (min 60000 (length lent)) → P (grammar (law.state k).draft) (length (law.state k).draft.places)
+    of_book P p = subst (λ n. P (grammar (law.state k).draft) n) (sym places_at) (subst (λ x. P (rules x) (min 60000 (length lent))) (sym book_at) p)
 
   -- the presses of a programme's keys
   module _ (lent : List Item) (strip : List ℕ) (answers : List Answer) (end : List Item) (left : List ℕ) (t : Reading g g.start) (few : length (yield t.children) ≤ 100)
-      (room : (k : ℕ) → k ≤ length (yield t.children) → Fit g (min 60000 (length lent)) (just (take k (yield t.children))))
-      (law : Law b lent strip (presses (yield t.children)) answers end left) where
+      (room : (k : ℕ) → k ≤ length (yield t.children) → ItemsFit g (min 60000 (length lent)) (just (take k (yield t.children))))
+      (law : RunLaw b lent strip (presses (yield t.children)) answers end left) where
     abbrev keys : List ℕ
     keys = yield t.children
 
@@ -104,37 +104,37 @@ module _ (b : SoundBook) where
     further k l = map_more only keys k 0 l
 
     -- with its first keys pressed, the next is lit, and it is taken
-    module _ (k : ℕ) (l : k < length keys) (held : words (law.moment k).draft ≡ just (take k keys)) where
-      behind : just (take (k + 1) keys) ≡ words (law.moment k).draft ++ (only (at_key k) ∷ [])
+    module _ (k : ℕ) (l : k < length keys) (held : words (law.state k).draft ≡ just (take k keys)) where
+      behind : just (take (k + 1) keys) ≡ words (law.state k).draft ++ (only (at_key k) ∷ [])
       behind = further k l ∙ ap (λ ws. ws ++ (only (at_key k) ∷ [])) (sym held)
 
-      lit_next : MayFollow g (words (law.moment k).draft) (at_key k)
+      lit_next : MayFollow g (words (law.state k).draft) (at_key k)
       lit_next = record { reading = t; begins = subst (Begins keys) behind (begins_first keys (k + 1)) }
 
       inside : k < length (presses keys)
       inside = omega (arith, l, length-map keys (λ c. Press (only c)))
 
-      pressed_next : CallLaw (law.moment k) (Press (only (at_key k))) (answer_at answers k) (law.moment (suc k))
-      pressed_next = call_is (law.moment k) (law.moment (suc k)) (call_at (presses keys) k) (Press (only (at_key k))) (answer_at answers k) (law.call k inside) (pressed_at keys k l)
+      pressed_next : CallLaw (law.state k) (Press (only (at_key k))) (answer_at answers k) (law.state (suc k))
+      pressed_next = call_is (law.state k) (law.state (suc k)) (call_at (presses keys) k) (Press (only (at_key k))) (answer_at answers k) (law.call k inside) (pressed_at keys k l)
 
-      taken_next : (answer_at answers k ≡ Items (law.moment (suc k)).draft.used) × (words (law.moment (suc k)).draft ≡ words (law.moment k).draft ++ (only (at_key k) ∷ []))
-      taken_next = press_taken (law.moment k) (law.moment (suc k)) (only (at_key k)) (answer_at answers k) pressed_next
-          (of_book lent strip (presses keys) answers end left law k (omega (arith, inside)) (λ h n. WordTaken h n (words (law.moment k).draft) (only (at_key k)))
+      taken_next : (answer_at answers k ≡ Items (law.state (suc k)).draft.used) × (words (law.state (suc k)).draft ≡ words (law.state k).draft ++ (only (at_key k) ∷ []))
+      taken_next = press_taken (law.state k) (law.state (suc k)) (only (at_key k)) (answer_at answers k) pressed_next
+          (of_book lent strip (presses keys) answers end left law k (omega (arith, inside)) (λ h n. PressAccepts h n (words (law.state k).draft) (only (at_key k)))
           (record {
             room = omega (arith, l, few, ap length held, length-map (take k keys) only, length-take-le k keys (omega (arith, l)));
             matches = record { key = at_key k; follows = lit_next; matches = eqb_refl (at_key k) };
-            fits = subst (Fit g (min 60000 (length lent))) behind (room (k + 1) (omega (arith, l)));
+            fits = subst (ItemsFit g (min 60000 (length lent))) behind (room (k + 1) (omega (arith, l)));
           }))
 
-    held_after : (k : ℕ) → k ≤ length keys → words (law.moment k).draft ≡ just (take k keys)
-    held_after zero l = ap (λ (m : Moment). words m.draft) law.first
+    held_after : (k : ℕ) → k ≤ length keys → words (law.state k).draft ≡ just (take k keys)
+    held_after zero l = ap (λ (m : RunState). words m.draft) law.first
     held_after (suc k) l =
         let h : k < length keys = omega (arith, l) in
         let before = held_after k (omega (arith, l)) in
         let next : k + 1 ≡ suc k = omega arith in
         (taken_next k h before).1 ∙ (sym (behind k h before) ∙ ap (λ n. just (take n keys)) next)
 
-    pub keyed_whole : KeyedWhole g keys answers law.moment
+    pub keyed_whole : KeyedWhole g keys answers law.state
     keyed_whole = record {
       lit = λ k l. lit_next k l (held_after k (omega (arith, l)));
       taken = λ k l. (taken_next k l (held_after k (omega (arith, l)))).0;
@@ -144,9 +144,9 @@ module _ (b : SoundBook) where
   law_shows : LawShows b
   law_shows = record {
     never_dark = λ lent strip calls answers places left law k w c held l is follows matches dark.
-        press_lit (law.moment k) (law.moment (suc k)) w (answer_at answers k) held
-        (call_is (law.moment k) (law.moment (suc k)) (call_at calls k) (Press w) (answer_at answers k) (law.call k l) is)
-        (of_book lent strip calls answers places left law k (omega (arith, l)) (λ h n. Matches h (words (law.moment k).draft) w) (record { key = c; follows = follows; matches = matches })) dark;
+        press_lit (law.state k) (law.state (suc k)) w (answer_at answers k) held
+        (call_is (law.state k) (law.state (suc k)) (call_at calls k) (Press w) (answer_at answers k) (law.call k l) is)
+        (of_book lent strip calls answers places left law k (omega (arith, l)) (λ h n. MatchesLit h (words (law.state k).draft) w) (record { key = c; follows = follows; matches = matches })) dark;
     some = some_programme;
     whole = λ lent strip answers places left t few room law. keyed_whole lent strip answers places left t few room law;
   }

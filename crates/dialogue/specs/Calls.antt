@@ -8,19 +8,19 @@ use Rattle.dialogue.specs.declared.calls.Answer.{Answer}
 use Rattle.dialogue.specs.declared.calls.Exchange.{Exchange}
 
 -- a call, by the test that tells each word
-abbrev pub told_call : {W : Type 0} → (W → ℕ → Bool) → Call W → Call Word
-told_call tells (Press w) = Press (word_of (tells w))
-told_call tells RubOut = RubOut
-told_call tells Lit = Lit
-told_call tells Whole = Whole
-told_call tells Reading = Reading
+abbrev pub call_of : {W : Type 0} → (W → ℕ → Bool) → Call W → Call Word
+call_of tells (Press w) = Press (word_of (tells w))
+call_of tells RubOut = RubOut
+call_of tells Lit = Lit
+call_of tells Whole = Whole
+call_of tells Reading = Reading
 
--- the calls of exchanges, as they are asked, and as they are told; and their answers
-abbrev pub asked : {W : Type 0} → List (Exchange W) → List (Call W)
-asked {W} es = map (λ (e : Exchange W). e.call) es
+-- the calls of exchanges, as they are calls_in, and as they are told; and their answers
+abbrev pub calls_in : {W : Type 0} → List (Exchange W) → List (Call W)
+calls_in {W} es = map (λ (e : Exchange W). e.call) es
 
-abbrev pub calls_of : {W : Type 0} → (W → ℕ → Bool) → List (Exchange W) → List (Call Word)
-calls_of {W} tells es = map (λ (e : Exchange W). told_call tells e.call) es
+abbrev pub calls_as_sets : {W : Type 0} → (W → ℕ → Bool) → List (Exchange W) → List (Call Word)
+calls_as_sets {W} tells es = map (λ (e : Exchange W). call_of tells e.call) es
 
-abbrev pub answers_of : {W : Type 0} → List (Exchange W) → List Answer
-answers_of {W} es = map (λ (e : Exchange W). e.answer) es
+abbrev pub answers_in : {W : Type 0} → List (Exchange W) → List Answer
+answers_in {W} es = map (λ (e : Exchange W). e.answer) es

@@ -5,8 +5,8 @@ use Rattle.language.specs.Readings.{Item, Programme}
 use Rattle.rulebook.specs.declared.faults.Fault.{Fault}
 use Rattle.soundbook.specs.declared.sounds.SoundBook.{SoundBook}
 use Rattle.chart.specs.declared.drafts.LitSet.{LitSet}
-use Rattle.draft.specs.States.{State, grammar, words, opened}
-use Rattle.draft.specs.Law.{Shows, SameChart, Pressed, NotPressed, RubbedOut, NotRubbedOut, LitIs}
+use Rattle.draft.specs.States.{DraftState, grammar, words, opened}
+use Rattle.draft.specs.Law.{IsLawful, SameChart, PressTaken, PressRefused, RubOutTaken, RubOutRefused, LitIs}
 use Rattle.reading.specs.Written.{ReadingWritten, ReadingRefused}
 use Rattle.dialogue.specs.declared.calls.Call.{Call}
 use Rattle.dialogue.specs.declared.calls.Call.TheVariants.{Press, RubOut, Lit, Whole, Reading}
@@ -14,21 +14,21 @@ use Rattle.dialogue.specs.declared.calls.Answer.{Answer}
 use Rattle.dialogue.specs.declared.calls.Answer.TheVariants.{Items, Keys, Yes, Moves, Refused}
 
 -- what is seen between two calls: the draft, and the strip
-pub record Moment : Type 0 where
-  pub draft : State
+pub record RunState : Type 0 where
+  pub draft : DraftState
   pub strip : List ℕ
 
-abbrev pub moment_of : State → List ℕ → Moment
-moment_of d s = record { draft = d; strip = s }
+abbrev pub run_state : DraftState → List ℕ → RunState
+run_state d s = record { draft = d; strip = s }
 
 -- A call is answered with what it gives, or refused; taken and refused say what then holds.
 abbrev pub Answered : {A : Type 0} → (A → Answer) → (A → Type 0) → (Fault → Type 0) → Answer → Type 0
 Answered {A} gives taken refused a = ((x : A) × taken x × (a ≡ gives x)) ⊎ ((f : Fault) × refused f × (a ≡ Refused f))
 
 -- what each call answers, and what it leaves
-abbrev pub CallLaw : Moment → Call Word → Answer → Moment → Type 0
-CallLaw old (Press w) a new = Answered Items (Pressed old.draft new.draft w) (NotPressed old.draft new.draft w) a × (new.strip ≡ old.strip)
-CallLaw old RubOut a new = Answered Items (RubbedOut old.draft new.draft) (NotRubbedOut old.draft new.draft) a × (new.strip ≡ old.strip)
+abbrev pub CallLaw : RunState → Call Word → Answer → RunState → Type 0
+CallLaw old (Press w) a new = Answered Items (PressTaken old.draft new.draft w) (PressRefused old.draft new.draft w) a × (new.strip ≡ old.strip)
+CallLaw old RubOut a new = Answered Items (RubOutTaken old.draft new.draft) (RubOutRefused old.draft new.draft) a × (new.strip ≡ old.strip)
 CallLaw old Lit a new = ((l : LitSet) × LitIs old.draft l × (a ≡ Keys l)) × (new ≡ old)
 CallLaw old Whole a new = ((b : Bool) × (IsTrue b ↔ Programme (grammar old.draft) (words old.draft)) × (a ≡ Yes b)) × (new ≡ old)
 CallLaw old Reading a new =
@@ -44,20 +44,20 @@ answer_at answers k = slice_index_or answers k (Yes false)
 
 -- The law. Of calls made one after another on a new draft of a sound book, over a chart and with a strip as they were lent, with
 -- their answers and the chart and the strip as they are handed back:
-pub record Law (book : SoundBook) (lent : List Item) (strip : List ℕ) (calls : List (Call Word)) (answers : List Answer) (places : List Item) (left : List ℕ) : Type 0 where
-  -- there is a moment before the first call, one between any two, and one after the last
-  pub moment : ℕ → Moment
+pub record RunLaw (book : SoundBook) (lent : List Item) (strip : List ℕ) (calls : List (Call Word)) (answers : List Answer) (places : List Item) (left : List ℕ) : Type 0 where
+  -- there is a state before the first call, one between any two, and one after the last
+  pub state : ℕ → RunState
   -- each call is answered
   pub answered : length answers ≡ length calls
   -- at first the draft is new, and the strip is as it was
-  pub first : moment 0 ≡ moment_of (opened book lent) strip
-  -- at each moment the chart shows exactly what the words held ask for, and all else of it is as at first
-  pub shows : (k : ℕ) → k ≤ length calls → Shows (moment k).draft
-  pub same : (k : ℕ) → k ≤ length calls → SameChart (opened book lent) (moment k).draft
-  -- each call leads from one moment to the next
-  pub call : (k : ℕ) → k < length calls → CallLaw (moment k) (call_at calls k) (answer_at answers k) (moment (suc k))
+  pub first : state 0 ≡ run_state (opened book lent) strip
+  -- at each state the chart shows exactly what the words held ask for, and all else of it is as at first
+  pub shows : (k : ℕ) → k ≤ length calls → IsLawful (state k).draft
+  pub same : (k : ℕ) → k ≤ length calls → SameChart (opened book lent) (state k).draft
+  -- each call leads from one state to the next
+  pub call : (k : ℕ) → k < length calls → CallLaw (state k) (call_at calls k) (answer_at answers k) (state (suc k))
   -- a refused call changes nothing
-  pub refused : (k : ℕ) (f : Fault) → k < length calls → answer_at answers k ≡ Refused f → moment (suc k) ≡ moment k
-  -- the last moment is what is handed back
-  pub chart : (moment (length calls)).draft.places ++ (moment (length calls)).draft.beyond ≡ places
-  pub strip_left : (moment (length calls)).strip ≡ left
+  pub refused : (k : ℕ) (f : Fault) → k < length calls → answer_at answers k ≡ Refused f → state (suc k) ≡ state k
+  -- the last state is what is handed back
+  pub chart : (state (length calls)).draft.places ++ (state (length calls)).draft.beyond ≡ places
+  pub strip_left : (state (length calls)).strip ≡ left

@@ -6,5 +6,5 @@ mod runs;
 mod theorems;
 
 pub use calls::{Answer, Call, Exchange};
-pub use runs::{RunResult, converse, run};
+pub use runs::{RunResult, check_and_run, run};
 pub use theorems::law_theorem;

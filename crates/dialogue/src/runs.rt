@@ -4,9 +4,9 @@ ghost use Rattle.language.specs.Sound.{Sound};
 ghost use Rattle.soundbook.specs.Refusals.{CheckRefuses};
 ghost use Rattle.soundbook.specs.Sounds.{sound_meaning};
 ghost use Rattle.chart.specs.Items.{told};
-ghost use Rattle.draft.specs.Law.{Shows};
-ghost use Rattle.dialogue.specs.Calls.{told_call, asked, calls_of, answers_of};
-ghost use Rattle.dialogue.specs.Runs.{CallLaw, Law, moment_of};
+ghost use Rattle.draft.specs.Law.{IsLawful};
+ghost use Rattle.dialogue.specs.Calls.{call_of, calls_in, calls_as_sets, answers_in};
+ghost use Rattle.dialogue.specs.Runs.{CallLaw, RunLaw, run_state};
 
 use super::calls::{Answer, Call, Exchange};
 use draft::{Draft, Item};
@@ -23,8 +23,8 @@ pub struct RunResult {
 
 // Makes a call, and answers it.
 fn make<W: Word>(draft: &mut Draft, call: &Call<W>, strip: &mut [u8]) -> Answer
-    ensures shows { Shows draft.new }
-    ensures law { CallLaw (moment_of draft.old strip.old) (told_call W.tells call.now) result (moment_of draft.new strip.new) }
+    ensures shows { IsLawful draft.new }
+    ensures law { CallLaw (run_state draft.old strip.old) (call_of W.tells call.now) result (run_state draft.new strip.new) }
 {
     match call {
         Call::Press(word) => draft
@@ -39,14 +39,14 @@ fn make<W: Word>(draft: &mut Draft, call: &Call<W>, strip: &mut [u8]) -> Answer
 
 /// Opens a new draft of a sound book over the chart, makes the calls in order, and answers each in its place. The chart comes
 /// back.
-pub fn converse<W: Word>(
+pub fn run<W: Word>(
     book: &SoundBook,
     chart: Vec<Item>,
     exchanges: &mut [Exchange<W>],
     strip: &mut [u8],
 ) -> Vec<Item>
-    ensures calls { asked exchanges.new ≡ asked exchanges.old }
-    ensures law { Law book.now (map told chart.items) strip.old (calls_of W.tells exchanges.old) (answers_of exchanges.new) (map told result.items) strip.new }
+    ensures calls { calls_in exchanges.new ≡ calls_in exchanges.old }
+    ensures law { RunLaw book.now (map told chart.items) strip.old (calls_as_sets W.tells exchanges.old) (answers_in exchanges.new) (map told result.items) strip.new }
 {
     let mut draft = Draft::open(book, chart);
     for exchange in exchanges.iter_mut() {
@@ -57,14 +57,14 @@ pub fn converse<W: Word>(
 
 /// Checks a book of any make into a place, and makes the calls on a new draft of it. A book that does not pass is refused, and
 /// then all is as it was.
-pub fn run<B: Book, W: Word>(
+pub fn check_and_run<B: Book, W: Word>(
     book: &B,
     place: &mut SoundBook,
     chart: Vec<Item>,
     exchanges: &mut [Exchange<W>],
     strip: &mut [u8],
 ) -> RunResult
-    ensures { MatchResult result.checked (λ _. Sound (B.meaning book.now) × (sound_meaning place.new ≡ B.meaning book.now) × (asked exchanges.new ≡ asked exchanges.old) × Law place.new (map told chart.items) strip.old (calls_of W.tells exchanges.old) (answers_of exchanges.new) (map told result.chart.items) strip.new) (λ f. CheckRefuses (B.meaning book.now) f × (place.new ≡ place.old) × (exchanges.new ≡ exchanges.old) × (result.chart.items ≡ chart.items) × (strip.new ≡ strip.old)) }
+    ensures { MatchResult result.checked (λ _. Sound (B.meaning book.now) × (sound_meaning place.new ≡ B.meaning book.now) × (calls_in exchanges.new ≡ calls_in exchanges.old) × RunLaw place.new (map told chart.items) strip.old (calls_as_sets W.tells exchanges.old) (answers_in exchanges.new) (map told result.chart.items) strip.new) (λ f. CheckRefuses (B.meaning book.now) f × (place.new ≡ place.old) × (exchanges.new ≡ exchanges.old) × (result.chart.items ≡ chart.items) × (strip.new ≡ strip.old)) }
 {
     if let Err(fault) = check(book, place) {
         return RunResult {
@@ -73,7 +73,7 @@ pub fn run<B: Book, W: Word>(
         };
     }
     RunResult {
-        chart: converse(place, chart, exchanges, strip),
+        chart: run(place, chart, exchanges, strip),
         checked: Ok(()),
     }
 }

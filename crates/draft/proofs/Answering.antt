@@ -22,19 +22,19 @@ use Rattle.soundbook.specs.Sounds.{sound_meaning}
 use Rattle.wording.specs.declared.pressed.Matched.{Matched}
 use Rattle.chart.specs.Overflow.{Outnumber}
 use Rattle.chart.specs.Takings.{Taken, NotTaken}
-use Rattle.chart.specs.Calls.{RubbedOut as InnerRubbedOut, NotRubbedOut as InnerNotRubbedOut, LitIs as InnerLitIs, ColumnIs as InnerColumnIs}
+use Rattle.chart.specs.Calls.{RubOutTaken as InnerRubbedOut, RubOutRefused as InnerNotRubbedOut, LitIs as InnerLitIs, ColumnIs as InnerColumnIs}
 use Rattle.chart.specs.States.{State as Inner, WordRecord, Stands, grammar as rules_of, words as held_words, in_use as standing, no_word, before}
 use Rattle.chart.specs.declared.drafts.LitSet.{LitSet}
 use Rattle.chart.proofs.Following.{passed_test}
 use Rattle.chart.proofs.Pressing.{some_held}
 use Rattle.draft.specs.States.{grammar, words}
-use Rattle.draft.specs.Law.{MayFollow, Matches, Fit, WordNotTaken, Pressed, NotPressed, RubbedOut, NotRubbedOut, LitIs}
+use Rattle.draft.specs.Law.{MayFollow, MatchesLit, ItemsFit, PressRefuses, PressTaken, PressRefused, RubOutTaken, RubOutRefused, LitIs}
 use Rattle.draft.specs.Schema.{ColumnIs}
 use Rattle.draft.specs.Views.{state_of}
 use Rattle.draft.proofs.Showing.{sound_of, words_seen, items_over, places_long, words_long, same_chart, same_front}
 
 -- items that fit do not outnumber the places
-pub not_both : (m : Meaning) → Sound m → (places : ℕ) (ws : List Word) → Fit m.grammar places ws → Outnumber m.grammar places ws → ⊥
+pub not_both : (m : Meaning) → Sound m → (places : ℕ) (ws : List Word) → ItemsFit m.grammar places ws → Outnumber m.grammar places ws → ⊥
 not_both m sound places ws fit o =
     omega (arith, fit.few, o.more, no_more o.items fit.items o.apart (λ t a. (fit.over.exact t).1 (((chart_theorem m sound ws).items t.rule t.done t.start t.end).0 (all_among (HeldItem m.grammar ws) o.items t o.held a))))
 
@@ -51,9 +51,9 @@ module _ (i : Inner) (stands : Stands i) where
   }
 
   -- press: 100 words are held
-  pub full_seen : (w : Word) (h : ℕ) → h ≡ i.held → 100 ≤ h → NotPressed (state_of i) (state_of i) w (DraftFull h)
+  pub full_seen : (w : Word) (h : ℕ) → h ≡ i.held → 100 ≤ h → PressRefused (state_of i) (state_of i) w (DraftFull h)
   full_seen w h e l = record {
-    refused = subst (λ x. WordNotTaken (rules_of i) (length (state_of i).places) (words (state_of i)) w (DraftFull x)) (words_long i stands ∙ sym e) (WordNotTaken.full (omega (arith, words_long i stands, e, l)));
+    refused = subst (λ x. PressRefuses (rules_of i) (length (state_of i).places) (words (state_of i)) w (DraftFull x)) (words_long i stands ∙ sym e) (PressRefuses.full (omega (arith, words_long i stands, e, l)));
     same = refl;
   }
 
@@ -62,19 +62,19 @@ module _ (i : Inner) (stands : Stands i) where
     holds_word : (c : ℕ) → has word c ≡ w c
     holds_word c = ap (λ (s : SymbolSet). has s c) of_word ∙ tells c
 
-    pub no_match : ((c : ℕ) → has both c ≡ false) → Matches (grammar (state_of i)) (words (state_of i)) w → ⊥
+    pub no_match : ((c : ℕ) → has both c ≡ false) → MatchesLit (grammar (state_of i)) (words (state_of i)) w → ⊥
     no_match none x = both_ways _ (none x.key) (common x.key ∙ and_from _ _ (((lit_seen l lit).keys x.key).1 x.follows) (holds_word x.key ∙ passed_test _ x.matches))
 
-    pub some_match : (((c : ℕ) → has both c ≡ false) → ⊥) → Matches (grammar (state_of i)) (words (state_of i)) w
+    pub some_match : (((c : ℕ) → has both c ≡ false) → ⊥) → MatchesLit (grammar (state_of i)) (words (state_of i)) w
     some_match some =
         let x = some_held both some in
         let parts = and_parts (has l.keys x.0) (has word x.0) (sym (common x.0) ∙ x.1) in
         record { key = x.0; follows = ((lit_seen l lit).keys x.0).0 parts.0; matches = T_from_true _ (sym (holds_word x.0) ∙ parts.1) }
 
   -- it matches none
-  pub dark_seen : (w : Word) (h : ℕ) → h ≡ i.held → h < 100 → (Matches (grammar (state_of i)) (words (state_of i)) w → ⊥) → NotPressed (state_of i) (state_of i) w (DarkWord h)
+  pub dark_seen : (w : Word) (h : ℕ) → h ≡ i.held → h < 100 → (MatchesLit (grammar (state_of i)) (words (state_of i)) w → ⊥) → PressRefused (state_of i) (state_of i) w (DarkWord h)
   dark_seen w h e l none = record {
-    refused = subst (λ x. WordNotTaken (rules_of i) (length (state_of i).places) (words (state_of i)) w (DarkWord x)) (words_long i stands ∙ sym e) (WordNotTaken.dark (omega (arith, words_long i stands, e, l)) none);
+    refused = subst (λ x. PressRefuses (rules_of i) (length (state_of i).places) (words (state_of i)) w (DarkWord x)) (words_long i stands ∙ sym e) (PressRefuses.dark (omega (arith, words_long i stands, e, l)) none);
     same = refl;
   }
 
@@ -84,8 +84,8 @@ module _ (i : Inner) (stands : Stands i) where
   stands_then j w (Err f) t = subst Stands (sym t.same) t.stands
 
   -- it matches one, and its items fit, or they do not
-  module _ (j : Inner) (w : Word) (room : i.held < 100) (match : Matches (grammar (state_of i)) (words (state_of i)) w) where
-    pub taken_seen : (n : ℕ) → Taken i j w n → Pressed (state_of i) (state_of j) w n
+  module _ (j : Inner) (w : Word) (room : i.held < 100) (match : MatchesLit (grammar (state_of i)) (words (state_of i)) w) where
+    pub taken_seen : (n : ℕ) → Taken i j w n → PressTaken (state_of i) (state_of j) w n
     taken_seen n t =
         let same = same_chart j i t.stands stands t.before in
         record {
@@ -107,17 +107,17 @@ module _ (i : Inner) (stands : Stands i) where
           answer = t.answer;
         }
 
-    pub crowded_seen : (f : Fault) → NotTaken i j w f → NotPressed (state_of i) (state_of j) w f
+    pub crowded_seen : (f : Fault) → NotTaken i j w f → PressRefused (state_of i) (state_of j) w f
     crowded_seen f t = record {
       refused =
-          subst (WordNotTaken (rules_of i) (length (state_of i).places) (words (state_of i)) w) (ap ChartFull (words_long i stands) ∙ sym t.fault)
-          (WordNotTaken.crowded (omega (arith, words_long i stands, room)) match (λ fit.
+          subst (PressRefuses (rules_of i) (length (state_of i).places) (words (state_of i)) w) (ap ChartFull (words_long i stands) ∙ sym t.fault)
+          (PressRefuses.crowded (omega (arith, words_long i stands, room)) match (λ fit.
           not_both (sound_meaning i.book) (sound_of i) i.budget (held_words i ++ (w ∷ []))
-          (subst (λ n. Fit (rules_of i) n (held_words i ++ (w ∷ []))) (places_long i stands) (subst (λ ws. Fit (rules_of i) (length (state_of i).places) (ws ++ (w ∷ []))) (words_seen i) fit)) t.more));
+          (subst (λ n. ItemsFit (rules_of i) n (held_words i ++ (w ∷ []))) (places_long i stands) (subst (λ ws. ItemsFit (rules_of i) (length (state_of i).places) (ws ++ (w ∷ []))) (words_seen i) fit)) t.more));
       same = ap state_of t.same;
     }
 
-    pub press_seen : (r : Result ℕ Fault) → MatchResult r (Taken i j w) (NotTaken i j w) → MatchResult r (Pressed (state_of i) (state_of j) w) (NotPressed (state_of i) (state_of j) w)
+    pub press_seen : (r : Result ℕ Fault) → MatchResult r (Taken i j w) (NotTaken i j w) → MatchResult r (PressTaken (state_of i) (state_of j) w) (PressRefused (state_of i) (state_of j) w)
     press_seen (Ok n) t = taken_seen n t
     press_seen (Err f) t = crowded_seen f t
 
@@ -136,7 +136,7 @@ module _ (i : Inner) (stands : Stands i) where
   none_held [] none = refl
   none_held (x ∷ xs) none = absurd (omega (arith, none))
 
-  pub rubbed_seen : (j : Inner) → Stands j → (r : Result ℕ Fault) → MatchResult r (InnerRubbedOut i j) (InnerNotRubbedOut i j) → MatchResult r (RubbedOut (state_of i) (state_of j)) (NotRubbedOut (state_of i) (state_of j))
+  pub rubbed_seen : (j : Inner) → Stands j → (r : Result ℕ Fault) → MatchResult r (InnerRubbedOut i j) (InnerNotRubbedOut i j) → MatchResult r (RubOutTaken (state_of i) (state_of j)) (RubOutRefused (state_of i) (state_of j))
   rubbed_seen j now (Ok n) p = record {
     last = last;
     words = words_seen i ∙ (words_less p.some ∙ ap (λ ws. ws ++ (last ∷ [])) (ap held_words (sym p.before) ∙ sym (words_seen j)));

@@ -19,7 +19,7 @@ use Rattle.chart.specs.Items.{blank_told}
 use Rattle.chart.specs.States.{State as Inner, WordRecord, record_at, words as held_words, in_use as standing, place as standing_at, blanked, Stands, before}
 use Rattle.chart.proofs.Pressing.{held_long}
 use Rattle.draft.specs.States.{grammar, words, place, in_use}
-use Rattle.draft.specs.Law.{ItemsOver, Shows, SameChart}
+use Rattle.draft.specs.Law.{ItemsOver, IsLawful, SameChart}
 use Rattle.draft.specs.Views.{state_of}
 
 -- the book of a draft is sound, since only the check makes one
@@ -57,7 +57,7 @@ module _ (i : Inner) (stands : Stands i) where
   pub words_long : length (words (state_of i)) ≡ i.held
   words_long = ap length (words_seen i) ∙ held_long i stands
 
-  pub shows : Shows (state_of i)
+  pub shows : IsLawful (state_of i)
   shows = record {
     few = omega (arith, words_long, stands.few);
     few_places = omega (arith, places_long, stands.budget);

@@ -9,14 +9,14 @@ use Rattle.rulebook.specs.declared.faults.Fault.{Fault}
 use Rattle.rulebook.specs.declared.faults.Fault.TheVariants.{DraftFull, DarkWord, ChartFull, NothingHeld}
 use Rattle.chart.specs.Items.{blank_told}
 use Rattle.chart.specs.declared.drafts.LitSet.{LitSet}
-use Rattle.draft.specs.States.{State, grammar, words, place, in_use}
+use Rattle.draft.specs.States.{DraftState, grammar, words, place, in_use}
 
 -- A key may follow the words: some programme begins with the words followed by that key.
 abbrev pub MayFollow : Grammar → List Word → ℕ → Type 0
 MayFollow g ws c = Begun g (ws ++ (only c ∷ []))
 
 -- the word matches a key that may follow
-pub record Matches (g : Grammar) (ws : List Word) (w : Word) : Type 0 where
+pub record MatchesLit (g : Grammar) (ws : List Word) (w : Word) : Type 0 where
   pub key : ℕ
   pub follows : MayFollow g ws key
   pub matches : T (w key)
@@ -28,14 +28,14 @@ pub record ItemsOver (g : Grammar) (ws : List Word) (ts : List Item) : Type 0 wh
   pub apart : Apart ts
 
 -- the items over the words fit so many places
-pub record Fit (g : Grammar) (n : ℕ) (ws : List Word) : Type 0 where
+pub record ItemsFit (g : Grammar) (n : ℕ) (ws : List Word) : Type 0 where
   pub items : List Item
   pub over : ItemsOver g ws items
   pub few : length items ≤ n
 
 -- At every moment: at most 100 words are held; the places in use hold exactly the items over the words held, each once, word by
 -- word; the draft's other places are blank.
-pub record Shows (d : State) : Type 0 where
+pub record IsLawful (d : DraftState) : Type 0 where
   pub few : length (words d) ≤ 100
   pub few_places : length d.places ≤ 60000
   pub fits : d.used ≤ length d.places
@@ -44,39 +44,39 @@ pub record Shows (d : State) : Type 0 where
   pub blank : (q : ℕ) → d.used ≤ q → q < length d.places → place d q ≡ blank_told
 
 -- the book, the number of places and all past them are as they were
-pub record SameChart (old new : State) : Type 0 where
+pub record SameChart (old new : DraftState) : Type 0 where
   pub book : new.book ≡ old.book
   pub long : length new.places ≡ length old.places
   pub beyond : new.beyond ≡ old.beyond
 
 -- a word is taken after those held, into n places: fewer than 100 are held, it matches a key that may follow, and the items,
 -- this word held too, fit
-pub record WordTaken (g : Grammar) (n : ℕ) (ws : List Word) (w : Word) : Type 0 where
+pub record PressAccepts (g : Grammar) (n : ℕ) (ws : List Word) (w : Word) : Type 0 where
   pub room : length ws < 100
-  pub matches : Matches g ws w
-  pub fits : Fit g n (ws ++ (w ∷ []))
+  pub matches : MatchesLit g ws w
+  pub fits : ItemsFit g n (ws ++ (w ∷ []))
 
 -- or it is refused for the first of these that does not hold
-pub data WordNotTaken (g : Grammar) (n : ℕ) (ws : List Word) (w : Word) : Fault → Type 0 where
-  full : 100 ≤ length ws → WordNotTaken g n ws w (DraftFull (length ws))
-  dark : length ws < 100 → (Matches g ws w → ⊥) → WordNotTaken g n ws w (DarkWord (length ws))
-  crowded : length ws < 100 → Matches g ws w → (Fit g n (ws ++ (w ∷ [])) → ⊥) → WordNotTaken g n ws w (ChartFull (length ws))
+pub data PressRefuses (g : Grammar) (n : ℕ) (ws : List Word) (w : Word) : Fault → Type 0 where
+  full : 100 ≤ length ws → PressRefuses g n ws w (DraftFull (length ws))
+  dark : length ws < 100 → (MatchesLit g ws w → ⊥) → PressRefuses g n ws w (DarkWord (length ws))
+  crowded : length ws < 100 → MatchesLit g ws w → (ItemsFit g n (ws ++ (w ∷ [])) → ⊥) → PressRefuses g n ws w (ChartFull (length ws))
 
 -- press: the word is the last held, the items that stood stay where they are, and the answer is how many items stand
-pub record Pressed (old new : State) (w : Word) (n : ℕ) : Type 0 where
-  pub taken : WordTaken (grammar old) (length old.places) (words old) w
+pub record PressTaken (old new : DraftState) (w : Word) (n : ℕ) : Type 0 where
+  pub taken : PressAccepts (grammar old) (length old.places) (words old) w
   pub words : words new ≡ words old ++ (w ∷ [])
   pub stay : take old.used new.places ≡ in_use old
   pub same : SameChart old new
   pub answer : n ≡ new.used
 
 -- or the word is refused, and nothing is changed
-pub record NotPressed (old new : State) (w : Word) (f : Fault) : Type 0 where
-  pub refused : WordNotTaken (grammar old) (length old.places) (words old) w f
+pub record PressRefused (old new : DraftState) (w : Word) (f : Fault) : Type 0 where
+  pub refused : PressRefuses (grammar old) (length old.places) (words old) w f
   pub same : new ≡ old
 
 -- rub out: the last word is gone, the items that stand were there before, and the answer is how many items stand
-pub record RubbedOut (old new : State) (n : ℕ) : Type 0 where
+pub record RubOutTaken (old new : DraftState) (n : ℕ) : Type 0 where
   pub last : Word
   pub words : words old ≡ words new ++ (last ∷ [])
   pub stay : in_use new ≡ take new.used old.places
@@ -84,12 +84,12 @@ pub record RubbedOut (old new : State) (n : ℕ) : Type 0 where
   pub answer : n ≡ new.used
 
 -- or no word is held, and nothing is changed
-pub record NotRubbedOut (old new : State) (f : Fault) : Type 0 where
+pub record RubOutRefused (old new : DraftState) (f : Fault) : Type 0 where
   pub none : words old ≡ []
   pub fault : f ≡ NothingHeld 0
   pub same : new ≡ old
 
 -- lit: the keys that may follow, and how many they are
-pub record LitIs (d : State) (l : LitSet) : Type 0 where
+pub record LitIs (d : DraftState) (l : LitSet) : Type 0 where
   pub keys : (c : ℕ) → IsTrue (has l.keys c) ↔ MayFollow (grammar d) (words d) c
   pub count : l.count ≡ many l.keys

@@ -11,7 +11,7 @@ use Rattle.chart.specs.Items.{blank_told}
 
 -- the sound book; the words held, each by the set of the keys that it matches; the draft's places, which are the chart's first
 -- 60,000, or all; the chart's other places; and how many places are in use
-pub record State : Type 0 where
+pub record DraftState : Type 0 where
   pub book : SoundBook
   pub sets : List SymbolSet
   pub places : List Item
@@ -19,23 +19,23 @@ pub record State : Type 0 where
   pub used : ℕ
 
 -- the book's rules
-abbrev pub grammar : State → Grammar
+abbrev pub grammar : DraftState → Grammar
 grammar d = (sound_meaning d.book).grammar
 
 -- the words held
-abbrev pub words : State → List Word
+abbrev pub words : DraftState → List Word
 words d = map (λ (s : SymbolSet). has s) d.sets
 
 -- what stands at a place
-abbrev pub place : State → ℕ → Item
+abbrev pub place : DraftState → ℕ → Item
 place d q = slice_index_or d.places q blank_told
 
 -- the places in use
-abbrev pub in_use : State → List Item
+abbrev pub in_use : DraftState → List Item
 in_use d = take d.used d.places
 
 -- a new draft over a chart: it holds no word, its places are blank, and the chart's others are as they were
-abbrev pub opened : SoundBook → List Item → State
+abbrev pub opened : SoundBook → List Item → DraftState
 opened b ts = record {
   book = b;
   sets = [];

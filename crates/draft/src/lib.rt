@@ -2,7 +2,7 @@
 //! their readings, what it answers and what it leaves.
 #![tactic(auto)]
 
-mod drafts;
+mod draft;
 
 pub use chart::{Item, LitSet};
-pub use drafts::Draft;
+pub use draft::Draft;

@@ -14,7 +14,7 @@ use Rattle.reading.specs.Written.{moves_of, ReadingRefused, not_whole, short}
 use Rattle.soundbook.specs.Sounds.{sound_meaning}
 use Rattle.soundbook.specs.declared.sounds.SoundBook.{SoundBook}
 use Rattle.draft.specs.States.{grammar, words}
-use Rattle.dialogue.specs.Runs.{Moment, CallLaw}
+use Rattle.dialogue.specs.Runs.{RunState, CallLaw}
 use Rattle.dialogue.specs.declared.calls.Call.TheVariants.{Reading}
 use Rattle.dialogue.specs.declared.calls.Answer.{Answer}
 use Rattle.keying.specs.Keyed.{piece_word, keying, LastLine, AllKeyed, KeyedRun, LastSaid}
@@ -25,11 +25,11 @@ module _ (b : SoundBook) (pieces : List Placed) (answers : List Answer) (run : K
   abbrev m : Meaning
   m = sound_meaning b
 
-  abbrev old : Moment
-  old = run.law.moment (2 * length pieces)
+  abbrev old : RunState
+  old = run.law.state (2 * length pieces)
 
-  abbrev new : Moment
-  new = run.law.moment (suc (2 * length pieces))
+  abbrev new : RunState
+  new = run.law.state (suc (2 * length pieces))
 
   inside : 2 * length pieces ≤ length (keying (map (piece_word m) pieces))
   inside = omega (arith, many_calls b pieces answers run)

@@ -12,9 +12,9 @@ use Rattle.soundbook.specs.Sounds.{sound_meaning}
 use Rattle.soundbook.specs.declared.sounds.SoundBook.{SoundBook}
 use Rattle.chart.specs.Items.{blank_told}
 use Rattle.chart.specs.declared.drafts.LitSet.{LitSet}
-use Rattle.draft.specs.Law.{Shows, WordTaken, WordNotTaken, Pressed, LitIs}
+use Rattle.draft.specs.Law.{IsLawful, PressAccepts, PressRefuses, PressTaken, LitIs}
 use Rattle.draft.specs.States.{grammar, words, in_use}
-use Rattle.dialogue.specs.Runs.{Moment, CallLaw, call_at, answer_at}
+use Rattle.dialogue.specs.Runs.{RunState, CallLaw, call_at, answer_at}
 use Rattle.dialogue.specs.declared.calls.Call.{Call}
 use Rattle.dialogue.specs.declared.calls.Call.TheVariants.{Press, Lit}
 use Rattle.dialogue.specs.declared.calls.Answer.{Answer}
@@ -25,7 +25,7 @@ use Rattle.dialogue.proofs.Running.{items_taken}
 use Rattle.keying.proofs.Listed.{symbols, symbols_are, symbols_apart, symbols_many}
 
 -- the line of the last of the words held, by the answer of lit
-line_of : (m : Moment) (l : LitSet) (n : ℕ) → Shows m.draft → LitIs m.draft l → n ≡ length (words m.draft) → WordLine (grammar m.draft) (words m.draft) (told_word n m.draft.used l.count)
+line_of : (m : RunState) (l : LitSet) (n : ℕ) → IsLawful m.draft → LitIs m.draft l → n ≡ length (words m.draft) → WordLine (grammar m.draft) (words m.draft) (told_word n m.draft.used l.count)
 line_of m l n shows lit many = record {
   items = in_use m.draft;
   over = shows.items;
@@ -54,37 +54,37 @@ module _ (b : SoundBook) (pieces : List Placed) (answers : List Answer) (run : K
   abbrev calls : List (Call Word)
   calls = keying (map (piece_word m) pieces)
 
-  abbrev moment : ℕ → Moment
-  moment k = run.law.moment k
+  abbrev state : ℕ → RunState
+  state k = run.law.state k
 
   -- the first words are held, and their lines are said
   pub record Going (taken : ℕ) (s : List ℕ) : Type 0 where
-    pub words : words (moment (2 * taken)).draft ≡ words_to taken
-    pub strip : (moment (2 * taken)).strip ≡ run.strip
+    pub words : words (state (2 * taken)).draft ≡ words_to taken
+    pub strip : (state (2 * taken)).strip ≡ run.strip
     pub lines : Lines m.grammar 8000 (words_to taken) s
 
   -- none is at first
   pub going_first : (s : List ℕ) → s ≡ [] → Going 0 s
-  going_first s none = subst (Going 0) (sym none) (record { words = ap (λ (x : Moment). words x.draft) run.law.first; strip = ap (λ (x : Moment). x.strip) run.law.first; lines = Lines.none })
+  going_first s none = subst (Going 0) (sym none) (record { words = ap (λ (x : RunState). words x.draft) run.law.first; strip = ap (λ (x : RunState). x.strip) run.law.first; lines = Lines.none })
 
   pub many_calls : length calls ≡ 2 * length pieces + 1
   many_calls = keying_many (piece_word m) pieces
 
   -- what the law says of a call and its answer, as it was read
-  pub law_of : (k : ℕ) (c : Call Word) (a : Answer) → k < length calls → call_at calls k ≡ c → a ≡ get_or answers k a → CallLaw (moment k) c a (moment (suc k))
+  pub law_of : (k : ℕ) (c : Call Word) (a : Answer) → k < length calls → call_at calls k ≡ c → a ≡ get_or answers k a → CallLaw (state k) c a (state (suc k))
   law_of k c a low is_call read =
-      subst (λ c. CallLaw (moment k) c a (moment (suc k))) is_call
-      (subst (λ a. CallLaw (moment k) (call_at calls k) a (moment (suc k))) is_answer
+      subst (λ c. CallLaw (state k) c a (state (suc k))) is_call
+      (subst (λ a. CallLaw (state k) (call_at calls k) a (state (suc k))) is_answer
       (run.law.call k low))
     where
       is_answer : answer_at answers k ≡ a
       is_answer = sym (get_or_read_under answers k (length answers) a (Yes false) read (omega (arith, low, run.law.answered)) refl)
 
-  -- each moment is one of this book, with 8,000 places
-  pub of_book : (k : ℕ) → k ≤ length calls → (P : Grammar → ℕ → Type 0) → P (grammar (moment k).draft) (length (moment k).draft.places) → P m.grammar 8000
+  -- each state is one of this book, with 8,000 places
+  pub of_book : (k : ℕ) → k ≤ length calls → (P : Grammar → ℕ → Type 0) → P (grammar (state k).draft) (length (state k).draft.places) → P m.grammar 8000
   of_book k low P p =
       subst (λ n. P m.grammar n) ((run.law.same k low).long ∙ (length-replicate (min 60000 (length run.lent)) blank_told ∙ ap (min 60000) run.many))
-      (subst (λ (x : SoundBook). P (sound_meaning x).grammar (length (moment k).draft.places)) (run.law.same k low).book p)
+      (subst (λ (x : SoundBook). P (sound_meaning x).grammar (length (state k).draft.places)) (run.law.same k low).book p)
 
   -- a further word, and the answers of its press and of lit
   module _ (taken : ℕ) (inside : taken < length pieces) (pressed : Answer) (is_pressed : pressed ≡ get_or answers (2 * taken) pressed) where
@@ -94,11 +94,11 @@ module _ (b : SoundBook) (pieces : List Placed) (answers : List Answer) (run : K
     abbrev word : Word
     word = piece_word m piece
 
-    abbrev old : Moment
-    old = moment (2 * taken)
+    abbrev old : RunState
+    old = state (2 * taken)
 
-    abbrev mid : Moment
-    mid = moment (suc (2 * taken))
+    abbrev mid : RunState
+    mid = state (suc (2 * taken))
 
     before : 2 * taken ≤ length calls
     before = omega (arith, inside, many_calls)
@@ -115,7 +115,7 @@ module _ (b : SoundBook) (pieces : List Placed) (answers : List Answer) (run : K
     -- behind the lines of the words so far
     module _ (s : List ℕ) (so_far : Going taken s) where
       -- a word is refused, and that is said
-      said_refused : (stop : Option Fault) (f : Fault) → WordNotTaken (grammar old.draft) (length old.draft.places) (words old.draft) word f → AllKeyed m pieces stop (s ++ told_fault f)
+      said_refused : (stop : Option Fault) (f : Fault) → PressRefuses (grammar old.draft) (length old.draft.places) (words old.draft) word f → AllKeyed m pieces stop (s ++ told_fault f)
       said_refused stop f reason = record {
         taken = taken;
         few = omega (arith, inside);
@@ -124,7 +124,7 @@ module _ (b : SoundBook) (pieces : List Placed) (answers : List Answer) (run : K
         end = told_fault f;
         last =
             subst (λ ps. LastLine m 8000 (words_to taken) ps stop (told_fault f)) (sym (drop_more pieces taken nothing inside))
-            (LastLine.refused piece (drop (taken + 1) pieces) stop f (subst (λ ws. WordNotTaken m.grammar 8000 ws word f) so_far.words (of_book (2 * taken) before (λ g n. WordNotTaken g n (words old.draft) word f) reason)));
+            (LastLine.refused piece (drop (taken + 1) pieces) stop f (subst (λ ws. PressRefuses m.grammar 8000 ws word f) so_far.words (of_book (2 * taken) before (λ g n. PressRefuses g n (words old.draft) word f) reason)));
         said = refl;
       }
 
@@ -132,32 +132,32 @@ module _ (b : SoundBook) (pieces : List Placed) (answers : List Answer) (run : K
       going_refused stop f is t said = subst (AllKeyed m pieces stop) said
           (⊎_elim
           (λ x. absurd (items_taken x.0 f pressed x.2 is))
-          (λ x. said_refused stop f (subst (WordNotTaken (grammar old.draft) (length old.draft.places) (words old.draft) word) (sym (ap fault_in (sym is ∙ x.2))) x.1.refused))
+          (λ x. said_refused stop f (subst (PressRefuses (grammar old.draft) (length old.draft.places) (words old.draft) word) (sym (ap fault_in (sym is ∙ x.2))) x.1.refused))
           press.0)
 
       -- or it is taken, and its line said
       module _ (lit : Answer) (is_lit : lit ≡ get_or answers (2 * taken + 1) lit) where
-        lit_law : CallLaw mid Lit lit (moment (suc (suc (2 * taken))))
+        lit_law : CallLaw mid Lit lit (state (suc (suc (2 * taken))))
         lit_law = law_of (suc (2 * taken)) Lit lit (omega (arith, inside, many_calls)) (keying_lit (piece_word m) pieces taken inside) (is_lit ∙ ap (λ k. get_or answers k lit) one_more)
           where
             one_more : 2 * taken + 1 ≡ suc (2 * taken)
             one_more = omega arith
 
         -- lit changes nothing
-        after : moment (2 * (taken + 1)) ≡ mid
-        after = ap moment two_more ∙ lit_law.1
+        after : state (2 * (taken + 1)) ≡ mid
+        after = ap state two_more ∙ lit_law.1
           where
             two_more : 2 * (taken + 1) ≡ suc (suc (2 * taken))
             two_more = omega arith
 
-        said_held : (n : ℕ) → Pressed old.draft mid.draft word n → (l : List ℕ) → l ≡ told_word (taken + 1) n lit_law.0.0.count → Going (taken + 1) (s ++ l)
+        said_held : (n : ℕ) → PressTaken old.draft mid.draft word n → (l : List ℕ) → l ≡ told_word (taken + 1) n lit_law.0.0.count → Going (taken + 1) (s ++ l)
         said_held n held l told = record {
-          words = ap (λ (d : Moment). words d.draft) after ∙ (now ∙ sym further);
-          strip = ap (λ (d : Moment). d.strip) after ∙ (press.1 ∙ so_far.strip);
+          words = ap (λ (d : RunState). words d.draft) after ∙ (now ∙ sym further);
+          strip = ap (λ (d : RunState). d.strip) after ∙ (press.1 ∙ so_far.strip);
           lines =
               subst (λ ws. Lines m.grammar 8000 ws (s ++ l)) (sym further)
               (Lines.more (words_to taken) word s l so_far.lines
-              (subst (λ ws. WordTaken m.grammar 8000 ws word) so_far.words (of_book (2 * taken) before (λ g n. WordTaken g n (words old.draft) word) held.taken))
+              (subst (λ ws. PressAccepts m.grammar 8000 ws word) so_far.words (of_book (2 * taken) before (λ g n. PressAccepts g n (words old.draft) word) held.taken))
               (subst (λ ws. WordLine m.grammar ws l) now
               (of_book (suc (2 * taken)) between (λ g n. WordLine g (words mid.draft) l)
               (subst (WordLine (grammar mid.draft) (words mid.draft)) (sym (told ∙ ap (λ n. told_word (taken + 1) n lit_law.0.0.count) held.answer))

@@ -17,8 +17,8 @@ use Rattle.wording.specs.Sets.{word_of}
 use Rattle.wording.specs.declared.pieces.Placed.{Placed}
 use Rattle.wording.specs.declared.spelled.Spelled.{Spelled}
 use Rattle.reading.specs.Written.{moves_of}
-use Rattle.draft.specs.Law.{MayFollow, ItemsOver, WordTaken, WordNotTaken}
-use Rattle.dialogue.specs.Runs.{Law}
+use Rattle.draft.specs.Law.{MayFollow, ItemsOver, PressAccepts, PressRefuses}
+use Rattle.dialogue.specs.Runs.{RunLaw}
 use Rattle.dialogue.specs.declared.calls.Call.{Call}
 use Rattle.dialogue.specs.declared.calls.Call.TheVariants.{Press, Lit, Reading}
 use Rattle.dialogue.specs.declared.calls.Answer.{Answer}
@@ -40,12 +40,12 @@ pub record WordLine (g : Grammar) (ws : List Word) (s : List ℕ) : Type 0 where
 -- the lines of words that are taken one after another
 pub data Lines (g : Grammar) (places : ℕ) : List Word → List ℕ → Type 0 where
   none : Lines g places [] []
-  more : (ws : List Word) (w : Word) (s l : List ℕ) → Lines g places ws s → WordTaken g places ws w → WordLine g (ws ++ (w ∷ [])) l → Lines g places (ws ++ (w ∷ [])) (s ++ l)
+  more : (ws : List Word) (w : Word) (s l : List ℕ) → Lines g places ws s → PressAccepts g places ws w → WordLine g (ws ++ (w ∷ [])) l → Lines g places (ws ++ (w ∷ [])) (s ++ l)
 
 -- the last line, after the words taken: the next word is refused; or the text is, behind its last word; or the words are a
 -- programme, and the line tells how many moves their first reading has; or they are no programme
 pub data LastLine (m : Meaning) (places : ℕ) (ws : List Word) : List Placed → Option Fault → List ℕ → Type 0 where
-  refused : (p : Placed) (ps : List Placed) (stop : Option Fault) (f : Fault) → WordNotTaken m.grammar places ws (piece_word m p) f → LastLine m places ws (p ∷ ps) stop (told_fault f)
+  refused : (p : Placed) (ps : List Placed) (stop : Option Fault) (f : Fault) → PressRefuses m.grammar places ws (piece_word m p) f → LastLine m places ws (p ∷ ps) stop (told_fault f)
   stopped : (f : Fault) → LastLine m places ws [] (Some f) (told_fault f)
   whole : (t : First m.grammar m.grammar.start ws) → LastLine m places ws [] None (told_whole (length (moves_of t)))
   short : (Programme m.grammar ws → ⊥) → LastLine m places ws [] None (codes "short\n")
@@ -90,7 +90,7 @@ pub record KeyedRun (book : SoundBook) (ws : List Word) (answers : List Answer) 
   pub long : length strip ≡ 12836
   pub places : List Item
   pub left : List ℕ
-  pub law : Law book lent strip (keying ws) answers places left
+  pub law : RunLaw book lent strip (keying ws) answers places left
 
 -- the line of a word that is taken, by the answers of its press and of lit
 abbrev pub WordSaid : ℕ → Answer → Answer → List ℕ → Type 0

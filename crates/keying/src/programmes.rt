@@ -1,12 +1,12 @@
 // A programme is keyed in, and what is said of it.
 ghost use Rattle.std.specs.Prelude.{◌≡◌, map, string_bytes, IfOk, MatchOption};
 ghost use Rattle.soundbook.specs.Sounds.{sound_meaning};
-ghost use Rattle.dialogue.specs.Calls.{calls_of, answers_of};
+ghost use Rattle.dialogue.specs.Calls.{calls_as_sets, answers_in};
 ghost use Rattle.dialogue.specs.declared.calls.Answer.TheVariants.{Refused};
 ghost use Rattle.keying.specs.Keyed.{piece_word, keying, spelled_tells, KeyedRun, WordSaid, LastSaid, AllKeyed, KeyedIn, Keyed};
 
 use bookreport::sound_book;
-use dialogue::{Answer, Call, Exchange, converse};
+use dialogue::{Answer, Call, Exchange, run};
 use draft::Item;
 use lines::{fault_line, whole_line, word_line};
 use rulebook::Fault;
@@ -26,7 +26,7 @@ fn exchanges_of<'t, 'b>(
     book: &'b SoundBook,
     words: &[Placed<'t>],
 ) -> Result<Vec<Exchange<Spelled<'t, 'b>>>, AllocError>
-    ensures { IfOk result (λ es. calls_of spelled_tells es.items ≡ keying (map (piece_word (sound_meaning book.now)) words.now)) }
+    ensures { IfOk result (λ es. calls_as_sets spelled_tells es.items ≡ keying (map (piece_word (sound_meaning book.now)) words.now)) }
 {
     let mut exchanges = Vec::new(heap);
     for word in words {
@@ -88,12 +88,12 @@ fn run_of<'t, 'b>(
     book: &'b SoundBook,
     programme: &Programme<'t>,
 ) -> Result<Vec<Exchange<Spelled<'t, 'b>>>, AllocError>
-    ensures { IfOk result (λ es. KeyedRun book.now (map (piece_word (sound_meaning book.now)) programme.now.words.items) (answers_of es.items)) }
+    ensures { IfOk result (λ es. KeyedRun book.now (map (piece_word (sound_meaning book.now)) programme.now.words.items) (answers_in es.items)) }
 {
     let mut exchanges = exchanges_of(heap, book, programme.words.as_slice())?;
     let chart = vec![in heap; Item::BLANK; PLACES]?;
     let mut strip = vec![in heap; 0u8; STRIP]?;
-    let _chart = converse(book, chart, exchanges.as_mut_slice(), strip.as_mut_slice());
+    let _chart = run(book, chart, exchanges.as_mut_slice(), strip.as_mut_slice());
     Ok(exchanges)
 }
 

@@ -17,7 +17,7 @@ use Rattle.language.proofs.Moves.Theorem.{moves_theorem}
 use Rattle.language.proofs.Order.First.{first_theorem}
 use Rattle.soundbook.specs.Sounds.{sound_meaning}
 use Rattle.soundbook.specs.declared.sounds.SoundBook.{SoundBook}
-use Rattle.draft.specs.Law.{Shows}
+use Rattle.draft.specs.Law.{IsLawful}
 use Rattle.draft.specs.States.{State as Seen, grammar, words}
 use Rattle.rulebook.specs.declared.faults.Fault.TheVariants.{NotWhole, StripShort}
 use Rattle.reading.specs.Walks.{OpenIs, OpensFirst, Owed}
@@ -59,7 +59,7 @@ root g ws X n top start many opens t = record {
     opened = subst (λ us. (u : Reads g g.start us) → Least u → (top.choice.rule ≡ u.reading.by) × OpenIs g ws top 0 u.reading.children) (between_all ws) (there (first g.start self) (omega arith)) t.reads t.least
 
 -- the words held are a programme, whose first reading is opened
-pub rooted : (d : Seen) → Shows d → Programme (grammar d) (words d) → (X n held : ℕ) (top : Open)
+pub rooted : (d : Seen) → IsLawful d → Programme (grammar d) (words d) → (X n held : ℕ) (top : Open)
     → X ≡ (grammar d).start → n ≡ length (words d) → held ≡ n → OpensFirst (grammar d) (words d) X 0 n top → Rooted (grammar d) (words d) top held
 rooted d shows programme X n held top start many is opens =
     let ws = words d in

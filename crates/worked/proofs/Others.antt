@@ -6,7 +6,7 @@ use Rattle.language.specs.Sound.{Sound}
 use Rattle.language.specs.Words.{only}
 use Rattle.language.specs.Readings.{none, key, part, item}
 use Rattle.soundbook.specs.Works.{works}
-use Rattle.draft.specs.Law.{Matches, WordTaken, WordNotTaken}
+use Rattle.draft.specs.Law.{MatchesLit, PressAccepts, PressRefuses}
 use Rattle.draft.proofs.Answering.{not_both}
 use Rattle.draft.proofs.Showing.{items_over}
 use Rattle.rulebook.specs.declared.faults.Fault.TheVariants.{DarkWord, ChartFull, Unproductive, UnitCycle}
@@ -18,21 +18,21 @@ use Rattle.worked.proofs.Sound.{sound_test, well_formed_test, productive_test, a
 use Rattle.worked.proofs.Computed.{tests, first_moves}
 use Rattle.worked.proofs.BookA.{sound_a, one_held, three_held, four_held}
 
-pub one_dark : (places : ℕ) → WordNotTaken book_a places (pressed (33 ∷ [])) (only 34) (DarkWord 1)
+pub one_dark : (places : ℕ) → PressRefuses book_a places (pressed (33 ∷ [])) (only 34) (DarkWord 1)
 unfolding tests
-one_dark places = WordNotTaken.dark (omega arith) (matches_none works sound_a (pressed (33 ∷ [])) (only 34) (35 ∷ []) one_held.lit refl)
+one_dark places = PressRefuses.dark (omega arith) (matches_none works sound_a (pressed (33 ∷ [])) (only 34) (35 ∷ []) one_held.lit refl)
 
 -- the fourth word matches the key that is lit after the third
-fourth_matches : Matches book_a (pressed (33 ∷ 35 ∷ 34 ∷ [])) (only 35)
+fourth_matches : MatchesLit book_a (pressed (33 ∷ 35 ∷ 34 ∷ [])) (only 35)
 unfolding tests
 fourth_matches = matches works sound_a (pressed (33 ∷ 35 ∷ 34 ∷ [])) (only 35) (35 ∷ []) 35 three_held.lit refl refl
 
-pub four_crowded : WordNotTaken book_a 7 (pressed (33 ∷ 35 ∷ 34 ∷ [])) (only 35) (ChartFull 3)
+pub four_crowded : PressRefuses book_a 7 (pressed (33 ∷ 35 ∷ 34 ∷ [])) (only 35) (ChartFull 3)
 four_crowded =
     let more : 7 < 8 = omega arith in
-    WordNotTaken.crowded (omega arith) fourth_matches (λ fit. not_both works sound_a 7 _ fit (record { items = item 3 1 0 1 ∷ item 3 2 0 2 ∷ item 1 1 0 2 ∷ item 2 1 0 2 ∷ item 4 1 2 3 ∷ item 4 2 2 4 ∷ item 2 2 0 4 ∷ item 2 1 0 4 ∷ []; held = four_held.items.held; apart = four_held.items.apart; more = more }))
+    PressRefuses.crowded (omega arith) fourth_matches (λ fit. not_both works sound_a 7 _ fit (record { items = item 3 1 0 1 ∷ item 3 2 0 2 ∷ item 1 1 0 2 ∷ item 2 1 0 2 ∷ item 4 1 2 3 ∷ item 4 2 2 4 ∷ item 2 2 0 4 ∷ item 2 1 0 4 ∷ []; held = four_held.items.held; apart = four_held.items.apart; more = more }))
 
-pub four_taken : WordTaken book_a 8 (pressed (33 ∷ 35 ∷ 34 ∷ [])) (only 35)
+pub four_taken : PressAccepts book_a 8 (pressed (33 ∷ 35 ∷ 34 ∷ [])) (only 35)
 four_taken = record { room = omega arith; matches = fourth_matches; fits = record { items = _; over = items_over works sound_a _ _ four_held.items; few = omega arith } }
 
 pub sound_b : Sound letters_b

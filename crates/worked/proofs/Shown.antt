@@ -13,7 +13,7 @@ use Rattle.language.specs.Columns.{Among, Apart}
 use Rattle.language.specs.Sound.{Sound}
 use Rattle.language.specs.Drafts.{Items, Lit, LitKeys}
 use Rattle.language.proofs.Chart.Theorem.{chart_theorem}
-use Rattle.draft.specs.Law.{Matches}
+use Rattle.draft.specs.Law.{MatchesLit}
 use Rattle.worked.proofs.Check.{any, every, any_member, member_any, every_member, has, has_among}
 use Rattle.language.proofs.Members.{all_among}
 use Rattle.language.proofs.Tests.{key_test, test_key}
@@ -118,9 +118,9 @@ module _ (g : Grammar) (ws : List Word) (ts : List Item) (Ns : List (List ℕ)) 
         (and_from (eqb 0 0) (eqb (length ws) (length ws)) refl (eq-eqb (length ws) (length ws) refl)))))
 
 -- a word that matches none of the lit keys
-pub matches_none : (m : Meaning) → Sound m → (ws : List Word) (w : Word) (cs : List ℕ) → LitKeys m.grammar ws cs → every (λ c. not (w c)) cs ≡ true → Matches m.grammar ws w → ⊥
+pub matches_none : (m : Meaning) → Sound m → (ws : List Word) (w : Word) (cs : List ℕ) → LitKeys m.grammar ws cs → every (λ c. not (w c)) cs ≡ true → MatchesLit m.grammar ws w → ⊥
 matches_none m sound ws w cs l h b = both_ways (w b.key) (not-true _ (every_member (λ c. not (w c)) cs b.key h ((l b.key).1 (((chart_theorem m sound ws).lit b.key).1 b.follows)))) (is_true _ b.matches)
 
 -- a word that matches the lit key c
-pub matches : (m : Meaning) → Sound m → (ws : List Word) (w : Word) (cs : List ℕ) (c : ℕ) → LitKeys m.grammar ws cs → has c cs ≡ true → w c ≡ true → Matches m.grammar ws w
+pub matches : (m : Meaning) → Sound m → (ws : List Word) (w : Word) (cs : List ℕ) (c : ℕ) → LitKeys m.grammar ws cs → has c cs ≡ true → w c ≡ true → MatchesLit m.grammar ws w
 matches m sound ws w cs c l h b = record { key = c; follows = ((chart_theorem m sound ws).lit c).0 ((l c).0 (has_among c cs h)); matches = T_from_true _ b }

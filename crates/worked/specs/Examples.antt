@@ -8,7 +8,7 @@ use Rattle.language.specs.Drafts.{Items, LitKeys}
 use Rattle.language.specs.Moves.{moves}
 use Rattle.language.specs.Order.{First}
 use Rattle.rulebook.specs.Fault.{number_of}
-use Rattle.draft.specs.Law.{WordTaken, WordNotTaken}
+use Rattle.draft.specs.Law.{PressAccepts, PressRefuses}
 use Rattle.rulebook.specs.declared.faults.Fault.TheVariants.{DarkWord, ChartFull, Unproductive, UnitCycle}
 use Rattle.soundbook.specs.Refusals.{Refused}
 use Rattle.soundbook.specs.Works.{works}
@@ -34,7 +34,7 @@ pub record Examples : Type 0 where
   -- one word: one item, not whole; then 34 is dark, whatever the places
   pub one_held : Shows book_a (pressed (33 ∷ [])) (item 3 1 0 1 ∷ []) (35 ∷ [])
   pub one_short : Programme book_a (pressed (33 ∷ [])) → ⊥
-  pub one_dark : (places : ℕ) → WordNotTaken book_a places (pressed (33 ∷ [])) (only 34) (DarkWord 1)
+  pub one_dark : (places : ℕ) → PressRefuses book_a places (pressed (33 ∷ [])) (only 34) (DarkWord 1)
   -- two words: four items, whole
   pub two_held : Shows book_a (pressed (33 ∷ 35 ∷ [])) (item 3 1 0 1 ∷ item 3 2 0 2 ∷ item 1 1 0 2 ∷ item 2 1 0 2 ∷ []) (33 ∷ 34 ∷ 36 ∷ [])
   pub two_whole : Programme book_a (pressed (33 ∷ 35 ∷ []))
@@ -42,8 +42,8 @@ pub record Examples : Type 0 where
   pub three_held : Shows book_a (pressed (33 ∷ 35 ∷ 34 ∷ [])) (item 3 1 0 1 ∷ item 3 2 0 2 ∷ item 1 1 0 2 ∷ item 2 1 0 2 ∷ item 4 1 2 3 ∷ []) (35 ∷ [])
   pub three_short : Programme book_a (pressed (33 ∷ 35 ∷ 34 ∷ [])) → ⊥
   -- the fourth word wants 8 places: with 7 it is refused, with 8 it is taken
-  pub four_crowded : WordNotTaken book_a 7 (pressed (33 ∷ 35 ∷ 34 ∷ [])) (only 35) (ChartFull 3)
-  pub four_taken : WordTaken book_a 8 (pressed (33 ∷ 35 ∷ 34 ∷ [])) (only 35)
+  pub four_crowded : PressRefuses book_a 7 (pressed (33 ∷ 35 ∷ 34 ∷ [])) (only 35) (ChartFull 3)
+  pub four_taken : PressAccepts book_a 8 (pressed (33 ∷ 35 ∷ 34 ∷ [])) (only 35)
   pub four_held : Shows book_a (pressed (33 ∷ 35 ∷ 34 ∷ 35 ∷ []))
       (item 3 1 0 1 ∷ item 3 2 0 2 ∷ item 1 1 0 2 ∷ item 2 1 0 2 ∷ item 4 1 2 3 ∷ item 4 2 2 4 ∷ item 2 2 0 4 ∷ item 2 1 0 4 ∷ [])
       (33 ∷ 34 ∷ 36 ∷ [])

@@ -1,5 +1,5 @@
 use Rattle.std.proofs.Common.{rules, ◌≡◌, ◌+◌, ◌*◌, ◌<◌, length, get_or, string_bytes, ap, ◌∙◌, arith, subst}
-use Rattle.dialogue.specs.Calls.{answers_of}
+use Rattle.dialogue.specs.Calls.{answers_in}
 use Rattle.keying.specs.Keyed.{piece_word}
 use Rattle.keying.proofs.Running.{answered_to, answer_read}
 use Rattle.keying.proofs.Going.{Going, going_first, going_on, going_refused}
@@ -44,4 +44,4 @@ returns c =
     let many : c.len-words.result ≡ n = search rules in
     let so_far : Going _ _ _ run n (string_bytes c.loop-place.said) = subst (λ k. Going _ _ _ run k (string_bytes c.loop-place.said)) all (c.loop-place.invariant run) in
     let read = answer_read c.in_ok-exchanges.exchanges.items (2 * c.len-words.result) c.index-2.result.now c.index-2.ensures in
-    going_last _ _ _ run _ so_far _ c.index-2.result.now.answer _ (read ∙ ap (λ k. get_or (answers_of c.in_ok-exchanges.exchanges.items) (2 * k) c.index-2.result.now.answer) many) c.in_ok-last_line.ensures _ (search rules)
+    going_last _ _ _ run _ so_far _ c.index-2.result.now.answer _ (read ∙ ap (λ k. get_or (answers_in c.in_ok-exchanges.exchanges.items) (2 * k) c.index-2.result.now.answer) many) c.in_ok-last_line.ensures _ (search rules)

@@ -4,7 +4,7 @@ ghost use Rattle.language.specs.Readings.{Programme};
 ghost use Rattle.wording.specs.Sets.{word_of};
 ghost use Rattle.chart.specs.Items.{told};
 ghost use Rattle.draft.specs.States.{grammar, words, opened};
-ghost use Rattle.draft.specs.Law.{Shows, Pressed, NotPressed, RubbedOut, NotRubbedOut, LitIs};
+ghost use Rattle.draft.specs.Law.{IsLawful, PressTaken, PressRefused, RubOutTaken, RubOutRefused, LitIs};
 ghost use Rattle.draft.specs.Schema.{ColumnIs};
 
 use chart::{Draft as Chart, Item, LitSet};
@@ -16,16 +16,16 @@ use wording::{Matched, Word};
 // The most words that a draft holds.
 const MOST_WORDS: usize = 100;
 
-/// The words held, and the chart of the items over them. What it means is told by `State`.
+/// The words held, and the chart of the items over them. What it means is told by `DraftState`.
 #[derive(Drop)]
 pub struct Draft<'b> {
     chart: Chart<'b>,
 }
 
 impl<'b> Model for Draft<'b> {
-    ghost use Rattle.draft.specs.States.{State};
+    ghost use Rattle.draft.specs.States.{DraftState};
 
-    ghost Value = { State };
+    ghost Value = { DraftState };
 
     ghost use Rattle.chart.specs.States.{Stands};
     ghost use Rattle.draft.specs.Views.{state_of};
@@ -38,7 +38,7 @@ impl<'b> Model for Draft<'b> {
 impl<'b> Draft<'b> {
     /// A new draft, which holds no word. Its places are the first 60,000 of the chart, or all if there are fewer.
     pub fn open(book: &'b SoundBook, chart: Vec<Item>) -> Draft<'b>
-        ensures shows { Shows result }
+        ensures shows { IsLawful result }
         ensures opened { result ≡ opened book.now (map told chart.items) }
     {
         Draft {
@@ -57,8 +57,8 @@ impl<'b> Draft<'b> {
     /// Adds a word behind those held, and answers how many items stand. Refused where 100 words are held, then where the word
     /// matches no key that may follow, then where the items, this word held too, do not fit the draft's places.
     pub fn press<W: Word>(&mut self, word: &W) -> Result<usize, Fault>
-        ensures shows { Shows self.new }
-        ensures cases { MatchResult result (Pressed self.old self.new (word_of (W.tells word.now))) (NotPressed self.old self.new (word_of (W.tells word.now))) }
+        ensures shows { IsLawful self.new }
+        ensures cases { MatchResult result (PressTaken self.old self.new (word_of (W.tells word.now))) (PressRefused self.old self.new (word_of (W.tells word.now))) }
     {
         let held = usize::from(self.chart.held());
         if held >= MOST_WORDS {
@@ -74,15 +74,15 @@ impl<'b> Draft<'b> {
 
     /// Removes the last word, and answers how many items stand. Refused where no word is held.
     pub fn rub_out(&mut self) -> Result<usize, Fault>
-        ensures shows { Shows self.new }
-        ensures cases { MatchResult result (RubbedOut self.old self.new) (NotRubbedOut self.old self.new) }
+        ensures shows { IsLawful self.new }
+        ensures cases { MatchResult result (RubOutTaken self.old self.new) (RubOutRefused self.old self.new) }
     {
         self.chart.rub_out()
     }
 
     /// The keys that may follow, and how many they are.
     pub fn lit(&self) -> LitSet
-        ensures shows { Shows self.now }
+        ensures shows { IsLawful self.now }
         ensures lit { LitIs self.now result }
     {
         self.chart.lit()
@@ -90,7 +90,7 @@ impl<'b> Draft<'b> {
 
     /// Whether the words held are a programme.
     pub fn whole(&self) -> bool
-        ensures shows { Shows self.now }
+        ensures shows { IsLawful self.now }
         ensures whole { IsTrue result ↔ Programme (grammar self.now) (words self.now) }
     {
         self.chart.whole()

@@ -1,19 +1,19 @@
 use Rattle.std.proofs.Common.{[], map, take, refl, sym, subst, arith}
 use Rattle.std.proofs.lemmas.List.{take_all}
 use Rattle.chart.specs.Items.{told}
-use Rattle.draft.specs.Law.{Shows}
+use Rattle.draft.specs.Law.{IsLawful}
 use Rattle.draft.specs.States.{opened}
-use Rattle.dialogue.specs.Calls.{calls_of, answers_of}
-use Rattle.dialogue.specs.Runs.{moment_of}
+use Rattle.dialogue.specs.Calls.{calls_as_sets, answers_in}
+use Rattle.dialogue.specs.Runs.{run_state}
 use Rattle.dialogue.proofs.Chaining.{Chain, none, asked_too, chain_more}
 use Rattle.dialogue.proofs.Running.{law_kept}
-use Rattle.dialogue.proofs.runs.converse.Goals as goal
+use Rattle.dialogue.proofs.runs.run.Goals as goal
 
 pub loop-exchange-init : goal.loop-exchange-init
 loop-exchange-init g c = (
   refl,
   c.open-draft.ensures.shows,
-  subst (λ d. Chain (moment_of d c.args.strip.now) [] [] (moment_of c.open-draft.result c.args.strip.now)) c.open-draft.ensures.opened (none (moment_of c.open-draft.result c.args.strip.now)),
+  subst (λ d. Chain (run_state d c.args.strip.now) [] [] (run_state c.open-draft.result c.args.strip.now)) c.open-draft.ensures.opened (none (run_state c.open-draft.result c.args.strip.now)),
 )
 
 pub loop-exchange-preserved : goal.loop-exchange-preserved
@@ -30,9 +30,9 @@ returns-clause-calls g c = c.loop-exchange.invariant.0
 pub returns-clause-law : goal.returns-clause-law
 returns-clause-law g c =
     let i = c.loop-exchange.invariant in
-    let m = moment_of (opened c.args.book.now (map told c.args.chart.items)) c.args.strip.now in
-    let n = moment_of c.loop-exchange.draft c.loop-exchange.strip in
+    let m = run_state (opened c.args.book.now (map told c.args.chart.items)) c.args.strip.now in
+    let n = run_state c.loop-exchange.draft c.loop-exchange.strip in
     let chain =
-    subst (λ es. Chain m (calls_of g.W.Word.tells es) (answers_of c.loop-exchange.exchanges) n) (take_all c.loop-exchange.exchange-index c.args.exchanges.now c.loop-exchange-test.false)
-    (subst (λ es. Chain m (calls_of g.W.Word.tells (take c.loop-exchange.exchange-index c.args.exchanges.now)) (answers_of es) n) (take_all c.loop-exchange.exchange-index c.loop-exchange.exchanges (omega (arith, c.loop-exchange.auto.exchanges, c.loop-exchange-test.false))) i.2) in
-    law_kept c.args.book.now (map told c.args.chart.items) c.args.strip.now _ _ n _ _ (subst Shows c.open-draft.ensures.opened c.open-draft.ensures.shows) chain (sym c.into_chart.ensures) refl
+    subst (λ es. Chain m (calls_as_sets g.W.Word.tells es) (answers_in c.loop-exchange.exchanges) n) (take_all c.loop-exchange.exchange-index c.args.exchanges.now c.loop-exchange-test.false)
+    (subst (λ es. Chain m (calls_as_sets g.W.Word.tells (take c.loop-exchange.exchange-index c.args.exchanges.now)) (answers_in es) n) (take_all c.loop-exchange.exchange-index c.loop-exchange.exchanges (omega (arith, c.loop-exchange.auto.exchanges, c.loop-exchange-test.false))) i.2) in
+    law_kept c.args.book.now (map told c.args.chart.items) c.args.strip.now _ _ n _ _ (subst IsLawful c.open-draft.ensures.opened c.open-draft.ensures.shows) chain (sym c.into_chart.ensures) refl

@@ -1,0 +1,15 @@
+use Rattle.std.proofs.Common.{◌≡◌, map, take}
+use Rattle.chart.specs.Items.{told}
+use Rattle.draft.specs.Law.{IsLawful}
+use Rattle.draft.specs.States.{opened}
+use Rattle.dialogue.specs.Calls.{calls_in, calls_as_sets, answers_in}
+use Rattle.dialogue.specs.Runs.{run_state}
+use Rattle.dialogue.proofs.Chaining.{Chain}
+use Rattle.dialogue.proofs.runs.run.Given as goal
+
+-- the calls so far are made and answered, and all calls stay
+abbrev pub invariant-loop-exchange : goal.invariant-loop-exchange
+invariant-loop-exchange g l =
+    (calls_in l.exchanges ≡ calls_in l.fn.exchanges)
+    × IsLawful l.draft
+    × Chain (run_state (opened l.fn.book (map told l.fn.chart.items)) l.fn.strip) (calls_as_sets g.W.Word.tells (take l.exchange-index l.fn.exchanges)) (answers_in (take l.exchange-index l.exchanges)) (run_state l.draft l.strip)
