@@ -1,20 +1,21 @@
 -- How the calls of a draft change what is seen of it.
-use Rattle.std.proofs.Common.{◌≡◌, ℕ, suc, ◌-◌, ◌≤◌, min, List, [], ◌∷◌, ◌++◌, map, length, get_or, set, replicate, sym, refl, ap, ◌∙◌, subst, ⊎_elim, le_refl, Bor, arith}
+use Rattle.std.proofs.Common.{◌≡◌, ℕ, suc, ◌-◌, ◌<◌, ◌≤◌, min, List, [], ◌∷◌, ◌++◌, map, length, get_or, set, replicate, sym, refl, ap, ◌∙◌, subst, ⊎_elim, le_refl, Bor, arith}
 use Rattle.std.proofs.lemmas.List.{length-map, ext_get_or, map-set, set-set, set-get_or}
 use Rattle.std.proofs.Math.ListN.{get_or-map}
 use Rattle.std.proofs.lemmas.Bool.{cases_lt}
 use Rattle.language.specs.Readings.{Item as Told}
+use Rattle.rulebook.specs.declared.sets.SymbolSet.{SymbolSet}
 use Rattle.soundbook.specs.declared.sounds.SoundBook.{SoundBook}
 use Rattle.chart.specs.Overflow.{Outnumber}
-use Rattle.rulebook.specs.declared.faults.Fault.TheVariants.{ChartFull}
+use Rattle.rulebook.specs.declared.faults.Fault.TheVariants.{DraftFull, ChartFull}
 use Rattle.wording.specs.declared.pressed.Matched.{Matched}
 use Rattle.chart.specs.Boards.{Cut, Fresh, at_place}
 use Rattle.chart.specs.Calls.{RubbedOut}
 use Rattle.chart.specs.Items.{blank_item, told, blank_told}
 use Rattle.chart.specs.Kept.{Kept, Recorded, Crowded}
-use Rattle.chart.specs.Records.{grammar_of, words_with, blank_record, matching}
+use Rattle.chart.specs.Records.{grammar_of, words_with, blank_record, matching, wanted_in}
 use Rattle.chart.specs.States.{WordRecord, State, no_word, record_at, words, blanked, opened, before, Stands}
-use Rattle.chart.specs.Takings.{Taken, NotTaken}
+use Rattle.chart.specs.Takings.{Taken, TakeRefuses, NotTaken}
 use Rattle.chart.specs.Views.{recorded, state_of}
 use Rattle.chart.specs.declared.boards.Board.{Board}
 use Rattle.chart.specs.declared.indexes.Index.{Index}
@@ -25,17 +26,17 @@ use Rattle.chart.proofs.Keeping.{OneMore, more_of, less_of, words_more, one_writ
 use Rattle.chart.proofs.Seen.{blanked_is, words_seen, record_seen, stands}
 
 -- states of the same numbers and lists are one
-states_alike : {g h : SoundBook} {ps qs : List Told} {b c : ℕ} {rs ts : List WordRecord} {m n u v : ℕ} → g ≡ h → ps ≡ qs → b ≡ c → rs ≡ ts → m ≡ n → u ≡ v
-    → ◌≡◌ {A = State} (record { book = g; places = ps; budget = b; records = rs; held = m; used = u }) (record { book = h; places = qs; budget = c; records = ts; held = n; used = v })
-states_alike a b c d e f = λ i. record { book = a i; places = b i; budget = c i; records = d i; held = e i; used = f i }
+states_alike : {g h : SoundBook} {k l : SymbolSet} {ps qs : List Told} {b c : ℕ} {rs ts : List WordRecord} {m n u v : ℕ} → g ≡ h → k ≡ l → ps ≡ qs → b ≡ c → rs ≡ ts → m ≡ n → u ≡ v
+    → ◌≡◌ {A = State} (record { book = g; first = k; places = ps; budget = b; records = rs; held = m; used = u }) (record { book = h; first = l; places = qs; budget = c; records = ts; held = n; used = v })
+states_alike a l b c d e f = λ i. record { book = a i; first = l i; places = b i; budget = c i; records = d i; held = e i; used = f i }
 
 -- what is told of a place of a chart
 told_at : (xs : List Item) (q : ℕ) → get_or (map told xs) q blank_told ≡ told (get_or xs q blank_item)
 told_at xs q = get_or-map told xs q blank_item
 
 -- a new draft
-pub opened_seen : (s : Settled) (b : Board) (lent : List Item) → s.records ≡ replicate 100 blank_record → s.held ≡ 0 → Fresh lent b → state_of s b ≡ opened s.book.now (map told lent)
-opened_seen s b lent records held fresh = states_alike refl places (fresh.limit ∙ ap (min 60000) (sym (length-map lent told))) (ap (map recorded) records) held fresh.top
+pub opened_seen : (s : Settled) (b : Board) (lent : List Item) → s.records ≡ replicate 100 blank_record → s.held ≡ 0 → Fresh lent b → state_of s b ≡ opened s.book.now (wanted_in s 0) (map told lent)
+opened_seen s b lent records held fresh = states_alike refl refl places (fresh.limit ∙ ap (min 60000) (sym (length-map lent told))) (ap (map recorded) records) held fresh.top
   where
     places : map told b.chart.items ≡ blanked (map told lent) 0 (min 60000 (length (map told lent)))
     places = sym (blanked_is (map told lent) 0 (min 60000 (length (map told lent))) (omega arith) (omega arith) (map told b.chart.items)
@@ -63,7 +64,7 @@ module _ (book : Bor SoundBook) (index : Index) (less more : List Record) (n m :
 
   -- the last word is rubbed out
   pub rubbed_seen : (old new : Board) → last.from ≤ old.top → Cut old new last.from → state_of a new ≡ before (state_of b old)
-  rubbed_seen old new order cut = states_alike refl (subst (λ x. map told new.chart.items ≡ blanked (map told old.chart.items) x old.top) (sym (last_seen old)) places) cut.limit records_seen (omega (arith, one.next)) (cut.top ∙ sym (last_seen old))
+  rubbed_seen old new order cut = states_alike refl refl (subst (λ x. map told new.chart.items ≡ blanked (map told old.chart.items) x old.top) (sym (last_seen old)) places) cut.limit records_seen (omega (arith, one.next)) (cut.top ∙ sym (last_seen old))
     where
       places : map told new.chart.items ≡ blanked (map told old.chart.items) last.from old.top
       places = sym (blanked_is (map told old.chart.items) last.from old.top order (omega (arith, length-map old.chart.items told, old.used, old.lent, old.chart.ok.0)) (map told new.chart.items)
@@ -74,7 +75,7 @@ module _ (book : Bor SoundBook) (index : Index) (less more : List Record) (n m :
 
   -- the last word is taken
   pub taken_seen : (old new : Board) (w : Matched) → Kept a old → Recorded a w old new last → before (state_of b new) ≡ state_of a old
-  taken_seen old new w kept done = states_alike refl (subst (λ x. blanked (map told new.chart.items) x new.top ≡ map told old.chart.items) (sym (last_seen new)) places) done.limit (sym records_seen) (omega (arith, one.next)) (last_seen new ∙ (done.from ∙ sym kept.top))
+  taken_seen old new w kept done = states_alike refl refl (subst (λ x. blanked (map told new.chart.items) x new.top ≡ map told old.chart.items) (sym (last_seen new)) places) done.limit (sym records_seen) (omega (arith, one.next)) (last_seen new ∙ (done.from ∙ sym kept.top))
     where
       places : blanked (map told new.chart.items) last.from new.top ≡ map told old.chart.items
       places = blanked_is (map told new.chart.items) last.from new.top (omega (arith, done.from, done.top, kept.top)) (omega (arith, length-map new.chart.items told, new.used, new.lent, new.chart.ok.0)) (map told old.chart.items)
@@ -104,7 +105,7 @@ module _ (s : Settled) (w : Matched) (old mid new : Board) (kept : Kept s old) (
   same_chart = ext_get_or blank_item new.chart.items old.chart.items (cut.long ∙ full.long) (λ q l. same_place q)
 
   pub refused_seen : state_of s new ≡ state_of s old
-  refused_seen = states_alike refl (ap (map told) same_chart) (cut.limit ∙ full.limit) refl refl cut.top
+  refused_seen = states_alike refl refl (ap (map told) same_chart) (cut.limit ∙ full.limit) refl refl cut.top
 
 -- the last word is rubbed out of a draft
 module _ (s : Settled) (old new : Board) (kept : Kept s old) (n place : ℕ) (few : n ≤ 100) (here : place ≡ n) (some : s.held ≡ suc n) (cut : Cut old new (get_or s.records place blank_record).from) where
@@ -166,10 +167,17 @@ module _ (s : Settled) (w : Matched) (old new : Board) (kept : Kept s old) (r : 
   taken v e = subst (λ x. Taken x (state_of longer new) (matching w) new.top) e taken_now
 
 -- a word whose items do not fit is not taken
-pub not_taken : (s : Settled) (w : Matched) (old mid new : Board) (kept : Kept s old) (full : Crowded s w old mid) (cut : Cut mid new old.top) (h : ℕ) (v : State) → h ≡ s.held → state_of s old ≡ v → NotTaken v (state_of s new) (matching w) (ChartFull h)
-not_taken s w old mid new kept full cut h v here e = subst (λ x. NotTaken x (state_of s new) (matching w) (ChartFull h)) e (record {
+pub crowded : (s : Settled) (w : Matched) (old mid new : Board) (kept : Kept s old) (full : Crowded s w old mid) (cut : Cut mid new old.top) (h : ℕ) (v : State) → h ≡ s.held → h < 100 → state_of s old ≡ v → NotTaken v (state_of s new) (matching w) (ChartFull h)
+crowded s w old mid new kept full cut h v here room e = subst (λ x. NotTaken x (state_of s new) (matching w) (ChartFull h)) e (record {
   stands = stands s old kept;
-  fault = ap ChartFull here;
-  more = subst (λ ws. Outnumber (grammar_of s) old.limit (ws ++ (matching w ∷ []))) (sym (words_seen s old)) full.more;
+  refused = subst (λ x. TakeRefuses (state_of s old) (matching w) (ChartFull x)) (sym here) (TakeRefuses.crowded (omega (arith, here, room)) (subst (λ ws. Outnumber (grammar_of s) old.limit (ws ++ (matching w ∷ []))) (sym (words_seen s old)) full.more));
   same = refused_seen s w old mid new kept full cut;
+})
+
+-- nor is one behind 100 words
+pub full : (s : Settled) (w : Matched) (b : Board) (kept : Kept s b) (h : ℕ) (v : State) → h ≡ s.held → 100 ≤ h → state_of s b ≡ v → NotTaken v v (matching w) (DraftFull h)
+full s w b kept h v here many e = subst (λ x. NotTaken x x (matching w) (DraftFull h)) e (record {
+  stands = stands s b kept;
+  refused = subst (λ x. TakeRefuses (state_of s b) (matching w) (DraftFull x)) (sym here) (TakeRefuses.full (omega (arith, here, many)));
+  same = refl;
 })

@@ -8,7 +8,6 @@ pub mod Keeping
 pub mod Marking
 pub mod Places
 pub mod Arranging
-pub mod Pressing
 pub mod Seen
 pub mod Spanned
 pub mod Spanning

@@ -1,5 +1,5 @@
 -- What is seen of a draft, told by what it keeps.
-use Rattle.std.proofs.Common.{◌≡◌, ℕ, ◌-◌, ◌<◌, ◌≤◌, IsTrue, ◌↔◌, min, List, [], ◌∷◌, ◌++◌, map, length, get_or, take, drop, replicate, sym, refl, ap, ◌∙◌, subst, ⊎_elim, arith}
+use Rattle.std.proofs.Common.{◌≡◌, ℕ, ◌-◌, ◌<◌, ◌≤◌, IsTrue, ◌↔◌, cond, eqb, min, List, [], ◌∷◌, ◌++◌, map, length, get_or, take, drop, replicate, sym, refl, ap, ◌∙◌, subst, ⊎_elim, arith}
 use Rattle.std.proofs.lemmas.List.{length-append, length-map, length-take-le, length-drop, length-replicate, get_or-take, get_or-drop, get_or-replicate, get_or_append_left, get_or-append_right, ext_get_or, take-map}
 use Rattle.std.proofs.Math.ListN.{get_or-map}
 use Rattle.std.proofs.lemmas.Bool.{cases_lt}
@@ -12,8 +12,8 @@ use Rattle.rulebook.specs.declared.sets.SymbolSet.{SymbolSet}
 use Rattle.chart.specs.Boards.{at_place}
 use Rattle.chart.specs.Items.{blank_item, told, blank_told}
 use Rattle.chart.specs.Kept.{Kept}
-use Rattle.chart.specs.Records.{grammar_of, words_of, record_of, blank_record, matching}
-use Rattle.chart.specs.States.{WordRecord, record_at, words, in_use, place, blanked, RecordIs, Stands}
+use Rattle.chart.specs.Records.{grammar_of, words_of, record_of, blank_record, matching, wanted_in}
+use Rattle.chart.specs.States.{WordRecord, record_at, expected, words, in_use, place, blanked, RecordIs, Stands}
 use Rattle.chart.specs.Views.{recorded, state_of}
 use Rattle.chart.specs.declared.boards.Board.{Board}
 use Rattle.chart.specs.declared.items.Item.{Item}
@@ -78,6 +78,10 @@ place_seen s b q = get_or-map told b.chart.items q blank_item
 pub record_seen : (s : Settled) (b : Board) (k : ℕ) → record_at (state_of s b) k ≡ recorded (record_of s k)
 record_seen s b k = get_or-map recorded s.records (k - 1) blank_record
 
+-- what may start after the words held
+pub expected_seen : (s : Settled) (b : Board) → expected (state_of s b) ≡ wanted_in s s.held
+expected_seen s b = ap (λ (r : WordRecord). cond (eqb s.held 0) (wanted_in s 0) r.wanted) (record_seen s b s.held)
+
 module _ (s : Settled) (b : Board) (kept : Kept s b) where
   used_long : length (take b.top b.chart.items) ≡ b.top
   used_long = length-take-le b.top b.chart.items (omega (arith, b.used, b.lent, b.chart.ok.0))
@@ -126,6 +130,7 @@ module _ (s : Settled) (b : Board) (kept : Kept s b) where
     budget = kept.limit ∙ ap (min 60000) (sym (length-map b.chart.items told));
     fits = b.used;
     items = items_seen;
+    first = λ Y. subst (λ ws. IsTrue (has (wanted_in s 0) Y) ↔ Wanted (grammar_of s) ws 0 Y) (sym (words_seen s b)) (kept.wanted 0 Y (omega arith));
     rising = λ p q l h. omega (arith, ap (λ (t : Told). t.end) (place_seen s b p), ap (λ (t : Told). t.end) (place_seen s b q), ends_rise s b kept p q l h);
     blank = λ q l h. place_seen s b q ∙ ap told (kept.blank q l h);
     many = length-map s.records recorded ∙ kept.long;

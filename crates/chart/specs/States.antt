@@ -1,5 +1,5 @@
 -- What is seen of a draft between its calls.
-use Rattle.std.specs.Prelude.{◌≡◌, ℕ, ◌-◌, ◌<◌, ◌≤◌, min, List, ◌++◌, map, length, take, drop, replicate, slice_index_or, slice_set, IsTrue, ◌↔◌}
+use Rattle.std.specs.Prelude.{◌≡◌, ℕ, ◌-◌, ◌<◌, ◌≤◌, if◌then◌else◌, ◌==◌, min, List, ◌++◌, map, length, take, drop, replicate, slice_index_or, slice_set, IsTrue, ◌↔◌}
 use Rattle.language.specs.Book.{Grammar}
 use Rattle.language.specs.Words.{Word}
 use Rattle.language.specs.Readings.{Item}
@@ -19,10 +19,11 @@ pub record WordRecord : Type 0 where
   pub from : ℕ
   pub past : ℕ
 
--- the sound book, all places of the chart, how many of them the draft may use, its records, and how many words are held and
--- places in use
+-- the sound book, the symbols that may start after no word, all places of the chart, how many of them the draft may use, its
+-- records, and how many words are held and places in use
 pub record State : Type 0 where
   pub book : SoundBook
+  pub first : SymbolSet
   pub places : List Item
   pub budget : ℕ
   pub records : List WordRecord
@@ -40,6 +41,10 @@ no_word = record { keys = record { mask = 0 }; wanted = record { mask = 0 }; fro
 -- the record of a word held; words count from 1
 abbrev pub record_at : State → ℕ → WordRecord
 record_at d k = slice_index_or d.records (k - 1) no_word
+
+-- the symbols that may start after the words held
+abbrev pub expected : State → SymbolSet
+expected d = (if d.held == 0 then d.first else (record_at d d.held).wanted)
 
 -- the words held
 abbrev pub words : State → List Word
@@ -70,6 +75,7 @@ pub record Stands (d : State) : Type 0 where
   pub budget : d.budget ≡ min 60000 (length d.places)
   pub fits : d.used ≤ d.budget
   pub items : Items (grammar d) (words d) (in_use d)
+  pub first : (Y : ℕ) → IsTrue (has d.first Y) ↔ Wanted (grammar d) (words d) 0 Y
   pub rising : (p q : ℕ) → p ≤ q → q < d.used → (place d p).end ≤ (place d q).end
   pub blank : (q : ℕ) → d.used ≤ q → q < d.budget → place d q ≡ blank_told
   pub many : length d.records ≡ 100
@@ -77,9 +83,10 @@ pub record Stands (d : State) : Type 0 where
   pub cleared : (k : ℕ) → d.held < k → k ≤ 100 → record_at d k ≡ no_word
 
 -- a new draft: it holds no word, its places are blank, and those past them are as they were
-abbrev pub opened : SoundBook → List Item → State
-opened b ts = record {
+abbrev pub opened : SoundBook → SymbolSet → List Item → State
+opened b first ts = record {
   book = b;
+  first = first;
   places = blanked ts 0 (min 60000 (length ts));
   budget = min 60000 (length ts);
   records = replicate 100 no_word;
@@ -91,6 +98,7 @@ opened b ts = record {
 abbrev pub before : State → State
 before d = record {
   book = d.book;
+  first = d.first;
   places = blanked d.places (record_at d d.held).from d.used;
   budget = d.budget;
   records = slice_set d.records (d.held - 1) no_word;

@@ -1,11 +1,12 @@
 // The draft: words are pressed and rubbed out, and the chart of the items over them is kept.
-ghost use Rattle.std.specs.Prelude.{◌≡◌, ◌<◌, map, MatchResult, IsTrue, ◌↔◌};
+ghost use Rattle.std.specs.Prelude.{◌≡◌, ℕ, ◌&&◌, map, MatchResult, IsTrue, ◌↔◌};
 ghost use Rattle.language.specs.Chart.{Whole};
-ghost use Rattle.chart.specs.Calls.{RubbedOut, NotRubbedOut, LitIs, ColumnIs};
+ghost use Rattle.chart.specs.Calls.{RubbedOut, NotRubbedOut, ColumnIs};
 ghost use Rattle.chart.specs.Takings.{Taken, NotTaken};
 ghost use Rattle.chart.specs.Records.{matching};
 ghost use Rattle.chart.specs.Items.{told};
-ghost use Rattle.chart.specs.States.{Stands, grammar, words, opened};
+ghost use Rattle.chart.specs.States.{Stands, grammar, words, expected, opened};
+ghost use Rattle.rulebook.specs.Sets.{has, key_number};
 
 use super::boards::{Board, Full};
 use super::items::Item;
@@ -16,12 +17,8 @@ use soundbook::SoundBook;
 use std::marker::Model;
 use wording::Matched;
 
-// The lit keys as a set, and how many they are.
-#[derive(Clone, Copy, Debug, PartialEq, Eq)]
-pub struct LitSet {
-    pub keys: SymbolSet,
-    pub count: u32,
-}
+/// The most words that a draft holds.
+pub const MOST_WORDS: usize = 100;
 
 // A draft over a sound book and a chart. What it means is told by `State`.
 #[derive(Drop)]
@@ -46,7 +43,7 @@ impl<'b> Draft<'b> {
     // A new draft, which holds no word. Its places are the first 60,000 of the chart, or all if there are fewer.
     pub fn open(book: &'b SoundBook, chart: Vec<Item>) -> Draft<'b>
         ensures stands { Stands result }
-        ensures opened { result ≡ opened book.now (map told chart.items) }
+        ensures opened { result ≡ opened book.now result.first (map told chart.items) }
     {
         Draft {
             settled: Settled::of(book),
@@ -63,12 +60,15 @@ impl<'b> Draft<'b> {
         chart
     }
 
-    // Takes a word behind those held, if its items fit.
+    // Takes a word behind those held, and answers how many items are in use. Refused where 100 words are held, then where the
+    // items do not fit.
     pub fn take(&mut self, word: Matched) -> Result<usize, Fault>
-        requires { self.old.held < 100 }
         ensures { MatchResult result (Taken self.old self.new (matching word)) (NotTaken self.old self.new (matching word)) }
     {
         let held = usize::from(self.settled.held);
+        if held >= MOST_WORDS {
+            return Err(Fault::DraftFull { held });
+        }
         let from = self.board.top;
         let press = Press {
             settled: &self.settled,
@@ -102,16 +102,12 @@ impl<'b> Draft<'b> {
         Ok(self.board.top)
     }
 
-    // The lit keys, and how many they are.
-    pub fn lit(&self) -> LitSet
+    // The keys that may start after the words held.
+    pub fn lit_keys(&self) -> SymbolSet
         ensures stands { Stands self.now }
-        ensures lit { LitIs self.now result }
+        ensures keys { (c : ℕ) → has result c ≡ (has (expected self.now) c && key_number c) }
     {
-        let keys = self.settled.lit();
-        LitSet {
-            keys,
-            count: keys.count(),
-        }
+        self.settled.lit()
     }
 
     // The book by whose rules the words are read.

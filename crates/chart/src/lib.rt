@@ -14,5 +14,5 @@ mod settling;
 mod starts;
 mod wholes;
 
-pub use drafts::{Draft, LitSet};
+pub use drafts::{Draft, MOST_WORDS};
 pub use items::Item;

@@ -4,7 +4,7 @@ use Rattle.language.specs.Words.{Word}
 use Rattle.language.specs.Readings.{Item}
 use Rattle.rulebook.specs.declared.faults.Fault.{Fault}
 use Rattle.soundbook.specs.declared.sounds.SoundBook.{SoundBook}
-use Rattle.chart.specs.declared.drafts.LitSet.{LitSet}
+use Rattle.draft.specs.declared.lit_set.LitSet.{LitSet}
 use Rattle.draft.specs.Law.{IsLawful, SameChart}
 use Rattle.draft.specs.States.{DraftState, opened}
 use Rattle.reading.specs.declared.readings.Written.{Written}

@@ -1,8 +1,11 @@
 -- What the chart answers, said of programmes and their readings.
-use Rattle.std.proofs.Common.{◌≡◌, ℕ, ◌-◌, ◌<◌, ◌≤◌, ◌↔◌, ◌&&◌, false, IsTrue, List, [], ◌∷◌, ◌++◌, map, length, get_or, take, refl, sym, ap, ◌∙◌, subst, arith}
-use Rattle.std.specs.Prelude.{Result, Ok, Err, MatchResult}
+use Rattle.std.proofs.Common.{◌≡◌, ℕ, ◌-◌, ◌<◌, ◌≤◌, ◌↔◌, ◌&&◌, Bool, true, false, IsTrue, List, [], ◌∷◌, ◌++◌, map, length, get_or, take, refl, sym, ap, ◌∙◌, subst, arith}
+use Rattle.std.specs.Prelude.{Result, Ok, Err, MatchResult, count_by, nat_le}
+use mathlib.Core.Path.{fun_ext}
+use Rattle.std.specs.List.{range_with_len}
+use Rattle.std.proofs.lemmas.List.Sums.{length-filter}
 use Rattle.std.proofs.lemmas.List.{length-take-le, take-set, map_more}
-use Rattle.std.proofs.lemmas.Bool.{both_ways, and_from, and_parts}
+use Rattle.std.proofs.lemmas.Bool.{both_ways, and_from, and_parts, leb-true}
 use Rattle.std.proofs.lemmas.Float.{T_from_true}
 use Rattle.language.specs.Book.{Meaning}
 use Rattle.language.specs.Sound.{Sound}
@@ -14,83 +17,93 @@ use Rattle.language.specs.Drafts.{Items}
 use Rattle.language.proofs.Chart.Theorem.{chart_theorem}
 use Rattle.language.proofs.Members.{all_among}
 use Rattle.language.proofs.Pigeonhole.{no_more}
-use Rattle.rulebook.specs.Sets.{has}
+use Rattle.rulebook.specs.Sets.{has, key_number, many}
 use Rattle.rulebook.specs.declared.faults.Fault.{Fault}
 use Rattle.rulebook.specs.declared.faults.Fault.TheVariants.{DraftFull, DarkWord, ChartFull}
 use Rattle.rulebook.specs.declared.sets.SymbolSet.{SymbolSet}
 use Rattle.soundbook.specs.Sounds.{sound_meaning}
 use Rattle.wording.specs.declared.pressed.Matched.{Matched}
 use Rattle.chart.specs.Overflow.{Outnumber}
-use Rattle.chart.specs.Takings.{Taken, NotTaken}
-use Rattle.chart.specs.Calls.{RubOutTaken as InnerRubbedOut, RubOutRefused as InnerNotRubbedOut, LitIs as InnerLitIs, ColumnIs as InnerColumnIs}
-use Rattle.chart.specs.States.{State as Inner, WordRecord, Stands, grammar as rules_of, words as held_words, in_use as standing, no_word, before}
-use Rattle.chart.specs.declared.drafts.LitSet.{LitSet}
+use Rattle.chart.specs.Takings.{Taken, TakeRefuses, NotTaken, full, crowded}
+use Rattle.chart.specs.Calls.{RubbedOut as InnerRubbedOut, NotRubbedOut as InnerNotRubbedOut, ColumnIs as InnerColumnIs}
+use Rattle.chart.specs.States.{State as Inner, WordRecord, Stands, grammar as rules_of, expected, words as held_words, in_use as standing, no_word, before}
+use Rattle.draft.specs.declared.lit_set.LitSet.{LitSet}
 use Rattle.chart.proofs.Following.{passed_test}
-use Rattle.chart.proofs.Pressing.{some_held}
 use Rattle.draft.specs.States.{grammar, words}
-use Rattle.draft.specs.Law.{MayFollow, MatchesLit, ItemsFit, PressRefuses, PressTaken, PressRefused, RubOutTaken, RubOutRefused, LitIs}
+use Rattle.draft.specs.Law.{MatchesLit, ItemsFit, PressRefuses, PressTaken, PressRefused, RubOutTaken, RubOutRefused, LitIs}
+use Rattle.draft.specs.Questions.{WordsFull, IsLit, IsDark}
 use Rattle.draft.specs.Schema.{ColumnIs}
 use Rattle.draft.specs.Views.{state_of}
-use Rattle.draft.proofs.Showing.{sound_of, words_seen, items_over, places_long, words_long, same_chart, same_front}
+use Rattle.draft.proofs.Listed.{passed_are, passed_all}
+use Rattle.draft.proofs.Showing.{sound_of, shows, words_seen, items_over, places_long, words_long, test_follows, same_chart, same_front}
+use Rattle.draft.proofs.Symbols.{some_held}
 
 -- items that fit do not outnumber the places
 pub not_both : (m : Meaning) → Sound m → (places : ℕ) (ws : List Word) → ItemsFit m.grammar places ws → Outnumber m.grammar places ws → ⊥
 not_both m sound places ws fit o =
     omega (arith, fit.few, o.more, no_more o.items fit.items o.apart (λ t a. (fit.over.exact t).1 (((chart_theorem m sound ws).items t.rule t.done t.start t.end).0 (all_among (HeldItem m.grammar ws) o.items t o.held a))))
 
+-- two tests that say yes together are one
+same_test : (a b : Bool) → (IsTrue a → IsTrue b) → (IsTrue b → IsTrue a) → a ≡ b
+same_test true b there back = sym (there refl)
+same_test false true there back = back refl
+same_test false false there back = refl
+
 -- of a draft, told by its chart
 module _ (i : Inner) (stands : Stands i) where
   -- lit
-  pub lit_seen : (l : LitSet) → InnerLitIs i l → LitIs (state_of i) l
-  lit_seen l lit = record {
-    keys = λ c.
-        subst (λ ws. IsTrue (has l.keys c) ↔ MayFollow (rules_of i) ws c) (sym (words_seen i))
-        (let lights = (chart_theorem (sound_meaning i.book) (sound_of i) (held_words i)).lit c in
-        (λ h. lights.0 ((lit.keys c).0 h), λ h. (lit.keys c).1 (lights.1 h)));
-    count = lit.count;
-  }
-
-  -- press: 100 words are held
-  pub full_seen : (w : Word) (h : ℕ) → h ≡ i.held → 100 ≤ h → PressRefused (state_of i) (state_of i) w (DraftFull h)
-  full_seen w h e l = record {
-    refused = subst (λ x. PressRefuses (rules_of i) (length (state_of i).places) (words (state_of i)) w (DraftFull x)) (words_long i stands ∙ sym e) (PressRefuses.full (omega (arith, words_long i stands, e, l)));
-    same = refl;
+  pub lit_seen : (l : LitSet) → ((c : ℕ) → has l.keys c ≡ (has (expected i) c && key_number c)) → l.count ≡ many l.keys → LitIs (state_of i) l
+  lit_seen l keys count = record {
+    keys = λ c. (
+      λ h.
+          let yes : IsTrue (has (expected i) c && key_number c) = sym (keys c) ∙ h in
+          let numbers = and_parts (nat_le 33 c) (nat_le c 64) (and_parts (has (expected i) c) (key_number c) yes).1 in
+          passed_all (λ n. has (expected i) n && key_number n) 1 64 c (omega (arith, leb-true 33 c numbers.0)) (omega (arith, leb-true c 64 numbers.1)) yes,
+      λ m. keys c ∙ (passed_are (λ n. has (expected i) n && key_number n) 1 64 c m).2,
+    );
+    count = count ∙ (ap (λ p. count_by p (range_with_len 1 64)) (fun_ext keys) ∙ sym (length-filter (λ n. has (expected i) n && key_number n) (range_with_len 1 64)));
   }
 
   -- the keys that may follow, those of the word, and those of both
-  module _ (w : Word) (l : LitSet) (lit : InnerLitIs i l) (m : Matched) (tells : (c : ℕ) → has m.keys c ≡ w c) (word : SymbolSet) (of_word : word ≡ m.keys) (both : SymbolSet) (common : (c : ℕ) → has both c ≡ (has l.keys c && has word c)) where
+  module _ (w : Word) (lit : SymbolSet) (keys : (c : ℕ) → has lit c ≡ (has (expected i) c && key_number c)) (m : Matched) (tells : (c : ℕ) → has m.keys c ≡ w c) (word : SymbolSet) (of_word : word ≡ m.keys) (both : SymbolSet) (common : (c : ℕ) → has both c ≡ (has word c && has lit c)) where
     holds_word : (c : ℕ) → has word c ≡ w c
     holds_word c = ap (λ (s : SymbolSet). has s c) of_word ∙ tells c
 
     pub no_match : ((c : ℕ) → has both c ≡ false) → MatchesLit (grammar (state_of i)) (words (state_of i)) w → ⊥
-    no_match none x = both_ways _ (none x.key) (common x.key ∙ and_from _ _ (((lit_seen l lit).keys x.key).1 x.follows) (holds_word x.key ∙ passed_test _ x.matches))
+    no_match none x = both_ways _ (none x.key) (common x.key ∙ and_from _ _ (holds_word x.key ∙ passed_test _ x.matches) (keys x.key ∙ (test_follows i stands x.key).1 x.follows))
 
-    pub some_match : (((c : ℕ) → has both c ≡ false) → ⊥) → MatchesLit (grammar (state_of i)) (words (state_of i)) w
-    some_match some =
+    pub lit_word : (((c : ℕ) → has both c ≡ false) → ⊥) → IsLit (state_of i) w m
+    lit_word some =
         let x = some_held both some in
-        let parts = and_parts (has l.keys x.0) (has word x.0) (sym (common x.0) ∙ x.1) in
-        record { key = x.0; follows = ((lit_seen l lit).keys x.0).0 parts.0; matches = T_from_true _ (sym (holds_word x.0) ∙ parts.1) }
+        let parts = and_parts (has word x.0) (has lit x.0) (sym (common x.0) ∙ x.1) in
+        record {
+          matches = record { key = x.0; follows = (test_follows i stands x.0).0 (sym (keys x.0) ∙ parts.1); matches = T_from_true _ (sym (holds_word x.0) ∙ parts.0) };
+          set = tells;
+        }
 
-  -- it matches none
-  pub dark_seen : (w : Word) (h : ℕ) → h ≡ i.held → h < 100 → (MatchesLit (grammar (state_of i)) (words (state_of i)) w → ⊥) → PressRefused (state_of i) (state_of i) w (DarkWord h)
-  dark_seen w h e l none = record {
-    refused = subst (λ x. PressRefuses (rules_of i) (length (state_of i).places) (words (state_of i)) w (DarkWord x)) (words_long i stands ∙ sym e) (PressRefuses.dark (omega (arith, words_long i stands, e, l)) none);
-    same = refl;
-  }
+    pub dark_seen : (h : ℕ) → h ≡ i.held → ((c : ℕ) → has both c ≡ false) → IsDark (state_of i) w (DarkWord h)
+    dark_seen h e none = record { none = no_match none; fault = ap DarkWord (e ∙ sym (words_long i stands)) }
+
+  -- a press that is refused before the chart is asked
+  pub full_press : (w : Word) (f : Fault) → WordsFull (state_of i) f → PressRefused (state_of i) (state_of i) w f
+  full_press w f q = record { refused = subst (PressRefuses (rules_of i) (length (state_of i).places) (words (state_of i)) w) (sym q.fault) (PressRefuses.full q.many); same = refl }
+
+  pub dark_press : (w : Word) (f : Fault) → length (words (state_of i)) < 100 → IsDark (state_of i) w f → PressRefused (state_of i) (state_of i) w f
+  dark_press w f few q = record { refused = subst (PressRefuses (rules_of i) (length (state_of i).places) (words (state_of i)) w) (sym q.fault) (PressRefuses.dark few q.none); same = refl }
 
   -- either way the chart stands
   pub stands_then : (j : Inner) (w : Word) (r : Result ℕ Fault) → MatchResult r (Taken i j w) (NotTaken i j w) → Stands j
   stands_then j w (Ok n) t = t.stands
   stands_then j w (Err f) t = subst Stands (sym t.same) t.stands
 
-  -- it matches one, and its items fit, or they do not
-  module _ (j : Inner) (w : Word) (room : i.held < 100) (match : MatchesLit (grammar (state_of i)) (words (state_of i)) w) where
+  -- it matches a lit key, and its items fit, or they do not
+  module _ (j : Inner) (w : Word) (few : length (words (state_of i)) < 100) (match : MatchesLit (grammar (state_of i)) (words (state_of i)) w) where
     pub taken_seen : (n : ℕ) → Taken i j w n → PressTaken (state_of i) (state_of j) w n
     taken_seen n t =
         let same = same_chart j i t.stands stands t.before in
         record {
           taken = record {
-            room = omega (arith, words_long i stands, room);
+            room = few;
             matches = match;
             fits = record {
               items = standing j;
@@ -108,14 +121,15 @@ module _ (i : Inner) (stands : Stands i) where
         }
 
     pub crowded_seen : (f : Fault) → NotTaken i j w f → PressRefused (state_of i) (state_of j) w f
-    crowded_seen f t = record {
-      refused =
-          subst (PressRefuses (rules_of i) (length (state_of i).places) (words (state_of i)) w) (ap ChartFull (words_long i stands) ∙ sym t.fault)
-          (PressRefuses.crowded (omega (arith, words_long i stands, room)) match (λ fit.
-          not_both (sound_meaning i.book) (sound_of i) i.budget (held_words i ++ (w ∷ []))
-          (subst (λ n. ItemsFit (rules_of i) n (held_words i ++ (w ∷ []))) (places_long i stands) (subst (λ ws. ItemsFit (rules_of i) (length (state_of i).places) (ws ++ (w ∷ []))) (words_seen i) fit)) t.more));
-      same = ap state_of t.same;
-    }
+    crowded_seen f t = record { refused = refuses f t.refused; same = ap state_of t.same }
+      where
+        refuses : (f : Fault) → TakeRefuses i w f → PressRefuses (rules_of i) (length (state_of i).places) (words (state_of i)) w f
+        refuses _ (full many) = absurd (omega (arith, few, words_long i stands, many))
+        refuses _ (crowded low more) =
+            subst (PressRefuses (rules_of i) (length (state_of i).places) (words (state_of i)) w) (ap ChartFull (words_long i stands))
+            (PressRefuses.crowded few match (λ fit.
+            not_both (sound_meaning i.book) (sound_of i) i.budget (held_words i ++ (w ∷ []))
+            (subst (λ n. ItemsFit (rules_of i) n (held_words i ++ (w ∷ []))) (places_long i stands) (subst (λ ws. ItemsFit (rules_of i) (length (state_of i).places) (ws ++ (w ∷ []))) (words_seen i) fit)) more))
 
     pub press_seen : (r : Result ℕ Fault) → MatchResult r (Taken i j w) (NotTaken i j w) → MatchResult r (PressTaken (state_of i) (state_of j) w) (PressRefused (state_of i) (state_of j) w)
     press_seen (Ok n) t = taken_seen n t
@@ -151,11 +165,11 @@ module _ (i : Inner) (stands : Stands i) where
   }
 
   -- whole
-  pub whole_seen : (b : Type 0) → b ↔ Whole (rules_of i) (held_words i) → b ↔ Programme (grammar (state_of i)) (words (state_of i))
+  pub whole_seen : (b : Bool) → IsTrue b ↔ Whole (rules_of i) (held_words i) → b ≡ (state_of i).whole
   whole_seen b whole =
-      subst (λ ws. b ↔ Programme (grammar (state_of i)) ws) (sym (words_seen i))
-      (let all = (chart_theorem (sound_meaning i.book) (sound_of i) (held_words i)).whole in
-      (λ h. all.0 (whole.0 h), λ h. whole.1 (all.1 h)))
+      let all = (chart_theorem (sound_meaning i.book) (sound_of i) (held_words i)).whole in
+      let known = subst (λ ws. IsTrue (state_of i).whole ↔ Programme (grammar (state_of i)) ws) (words_seen i) (shows i stands).whole in
+      same_test b (state_of i).whole (λ h. known.1 (all.0 (whole.0 h))) (λ h. whole.1 (all.1 (known.0 h)))
 
   -- the items that end at a word
   pub column_seen : (k : ℕ) (ts : List Item) → InnerColumnIs i k ts → ColumnIs (state_of i) k ts

@@ -1,2 +1,4 @@
 pub mod Answering
+pub mod Listed
 pub mod Showing
+pub mod Symbols

@@ -1,26 +1,31 @@
 -- What is seen of a draft, told by its chart.
-use Rattle.std.proofs.Common.{◌≡◌, ℕ, ◌-◌, ◌<◌, ◌≤◌, List, [], ◌∷◌, ◌++◌, map, length, get_or, take, drop, replicate, refl, sym, ap, ◌∙◌, subst, ⊎_elim, arith, append_assoc, length-append}
-use Rattle.std.proofs.lemmas.List.{length-take-le, length-replicate, get_or-take, get_or_append_left, take-take, take-append-le}
-use Rattle.std.proofs.lemmas.Bool.{cases_lt}
+use Rattle.std.specs.Prelude.{nat_le}
+use Rattle.std.proofs.Common.{◌≡◌, ℕ, ◌-◌, ◌<◌, ◌≤◌, ◌&&◌, IsTrue, ◌↔◌, eqb, min, List, [], ◌∷◌, ◌++◌, map, length, get_or, take, drop, replicate, refl, sym, ap, ◌∙◌, subst, ⊎_elim, le_refl, arith, append_assoc, length-append}
+use Rattle.std.proofs.lemmas.List.{length-map, length-take-le, length-replicate, get_or-take, get_or_append_left, take-take, take-append-le}
+use Rattle.std.proofs.lemmas.Bool.{cases_eq, cases_lt, and_from, and_parts, cond-true, cond-false, eqb-true, eq-eqb, ne_eqb, le-leb, leb-true}
 use Rattle.std.proofs.lemmas.Slice.{drop-append-drop}
-use Rattle.language.specs.Book.{Meaning}
+use Rattle.language.specs.Book.{Meaning, size}
 use Rattle.language.specs.Sound.{Sound}
 use Rattle.language.specs.Words.{Word}
-use Rattle.language.specs.Readings.{Item}
-use Rattle.language.specs.Chart.{HeldItem}
-use Rattle.language.specs.Drafts.{Items}
+use Rattle.language.specs.Readings.{Item, item, Programme}
+use Rattle.language.specs.Chart.{Wanted, Held, HeldItem, Whole}
+use Rattle.language.specs.Columns.{Among}
+use Rattle.language.specs.Drafts.{Items, Lit}
 use Rattle.language.proofs.Chart.Theorem.{chart_theorem}
 use Rattle.language.proofs.Known.{sound_known}
 use Rattle.language.proofs.Members.{all_among, among_get}
-use Rattle.rulebook.specs.Sets.{has}
+use Rattle.rulebook.specs.Sets.{has, key_number}
 use Rattle.rulebook.specs.declared.sets.SymbolSet.{SymbolSet}
 use Rattle.soundbook.specs.Sounds.{sound_meaning}
+use Rattle.soundbook.proofs.Plain.{plain}
+use Rattle.soundbook.specs.declared.sounds.SoundBook.{SoundBook}
 use Rattle.chart.specs.Items.{blank_told}
-use Rattle.chart.specs.States.{State as Inner, WordRecord, record_at, words as held_words, in_use as standing, place as standing_at, blanked, Stands, before}
-use Rattle.chart.proofs.Pressing.{held_long}
+use Rattle.chart.specs.States.{State as Inner, WordRecord, record_at, grammar as rules_of, expected, words as held_words, in_use as standing, place as standing_at, blanked, opened, Stands, before}
 use Rattle.draft.specs.States.{grammar, words, place, in_use}
-use Rattle.draft.specs.Law.{ItemsOver, IsLawful, SameChart}
-use Rattle.draft.specs.Views.{state_of}
+use Rattle.draft.specs.Law.{MayFollow, ItemsOver, IsLawful, IsNew, SameChart}
+use Rattle.draft.specs.Views.{lit_of, spans_all, state_of}
+use Rattle.draft.proofs.Listed.{passed_are, passed_all, passed_apart, any_among, among_any}
+use Rattle.draft.proofs.Symbols.{wanted_key}
 
 -- the book of a draft is sound, since only the check makes one
 pub sound_of : (i : Inner) → Sound (sound_meaning i.book)
@@ -54,8 +59,82 @@ module _ (i : Inner) (stands : Stands i) where
   pub in_use_seen : in_use (state_of i) ≡ standing i
   in_use_seen = take-take i.used i.budget i.places stands.fits
 
+  -- as many words are held as are counted
+  held_long : length (held_words i) ≡ i.held
+  held_long = length-map (take i.held i.records) (λ (r : WordRecord). has r.keys) ∙ length-take-le i.held i.records (omega (arith, stands.few, stands.many))
+
   pub words_long : length (words (state_of i)) ≡ i.held
-  words_long = ap length (words_seen i) ∙ held_long i stands
+  words_long = ap length (words_seen i) ∙ held_long
+
+  -- what may start after the last of them
+  expected_is : (Y : ℕ) → IsTrue (has (expected i) Y) ↔ Wanted (rules_of i) (held_words i) i.held Y
+  expected_is Y = ⊎_elim
+      (λ none.
+      subst (λ (s : SymbolSet). IsTrue (has s Y) ↔ Wanted (rules_of i) (held_words i) i.held Y) (sym (cond-true (eqb i.held 0) i.first (record_at i i.held).wanted (eq-eqb i.held 0 none)))
+      (subst (λ k. IsTrue (has i.first Y) ↔ Wanted (rules_of i) (held_words i) k Y) (sym none) (stands.first Y)))
+      (λ some.
+      subst (λ (s : SymbolSet). IsTrue (has s Y) ↔ Wanted (rules_of i) (held_words i) i.held Y) (sym (cond-false (eqb i.held 0) i.first (record_at i i.held).wanted (ne_eqb i.held 0 some)))
+      ((stands.records i.held (omega (arith, some)) (le_refl i.held)).wanted Y))
+      (cases_eq i.held 0)
+
+  -- the symbols of the lit keys are those that may start there, from 33 on
+  lit_test : (c : ℕ) → IsTrue (has (expected i) c && key_number c) ↔ Lit (rules_of i) (held_words i) c
+  lit_test c = (lights, shines)
+    where
+      lights : IsTrue (has (expected i) c && key_number c) → Lit (rules_of i) (held_words i) c
+      lights h =
+          let parts = and_parts (has (expected i) c) (key_number c) h in
+          let wanted = (expected_is c).0 parts.0 in
+          record {
+            key = wanted_key (rules_of i) (plain (sound_meaning i.book) i.book.sound) (held_words i) i.held c wanted (leb-true 33 c (and_parts _ _ parts.1).0);
+            wanted = subst (λ k. Wanted (rules_of i) (held_words i) k c) (sym held_long) wanted;
+          }
+
+      shines : Lit (rules_of i) (held_words i) c → IsTrue (has (expected i) c && key_number c)
+      shines l = and_from _ _ ((expected_is c).1 (subst (λ k. Wanted (rules_of i) (held_words i) k c) held_long l.wanted))
+          (and_from _ _ (le-leb 33 c l.key.low) (le-leb c 64 (omega (arith, l.key.high, (plain (sound_meaning i.book) i.book.sound).few_keys))))
+
+  pub test_follows : (c : ℕ) → IsTrue (has (expected i) c && key_number c) ↔ MayFollow (grammar (state_of i)) (words (state_of i)) c
+  test_follows c =
+      subst (λ ws. IsTrue (has (expected i) c && key_number c) ↔ MayFollow (rules_of i) ws c) (sym (words_seen i))
+      (let lights = (chart_theorem (sound_meaning i.book) (sound_of i) (held_words i)).lit c in
+      (λ h. lights.0 ((lit_test c).0 h), λ h. (lit_test c).1 (lights.1 h)))
+
+  lit_shown : (c : ℕ) → Among c (lit_of i) ↔ MayFollow (grammar (state_of i)) (words (state_of i)) c
+  lit_shown c = (
+    λ m. (test_follows c).0 (passed_are (λ n. has (expected i) n && key_number n) 1 64 c m).2,
+    λ follows.
+        let yes = (test_follows c).1 follows in
+        let numbers = and_parts (nat_le 33 c) (nat_le c 64) (and_parts (has (expected i) c) (key_number c) yes).1 in
+        passed_all (λ n. has (expected i) n && key_number n) 1 64 c (omega (arith, leb-true 33 c numbers.0)) (omega (arith, leb-true c 64 numbers.1)) yes,
+  )
+
+  -- an item spans all words exactly where they are a programme
+  whole_shown : IsTrue (state_of i).whole ↔ Programme (grammar (state_of i)) (words (state_of i))
+  whole_shown =
+      subst (λ ws. IsTrue (state_of i).whole ↔ Programme (grammar (state_of i)) ws) (sym (words_seen i))
+      (let all = (chart_theorem (sound_meaning i.book) (sound_of i) (held_words i)).whole in
+      (λ h. all.0 (found h), λ h. finds (all.1 h)))
+    where
+      found : IsTrue (state_of i).whole → Whole (rules_of i) (held_words i)
+      found h =
+          let x = any_among (spans_all i) (standing i) h in
+          let t = x.0 in
+          let parts = and_parts _ _ x.2 in
+          let finished = and_parts _ _ parts.1 in
+          let ends = and_parts _ _ finished.1 in
+          let held : HeldItem (rules_of i) (held_words i) t = all_among (HeldItem (rules_of i) (held_words i)) (standing i) t stands.items.held x.1 in
+          record {
+            by = t.rule;
+            heads = eqb-true _ _ parts.0;
+            held = subst (λ k. Held (rules_of i) (held_words i) t.rule (size (rules_of i) t.rule) 0 k) (eqb-true _ _ ends.1 ∙ sym held_long)
+                (subst (λ j. Held (rules_of i) (held_words i) t.rule (size (rules_of i) t.rule) j t.end) (eqb-true _ _ ends.0)
+                (subst (λ d. Held (rules_of i) (held_words i) t.rule d t.start t.end) (eqb-true _ _ finished.0) held));
+          }
+
+      finds : Whole (rules_of i) (held_words i) → IsTrue (state_of i).whole
+      finds w = among_any (spans_all i) (standing i) (item w.by (size (rules_of i) w.by) 0 (length (held_words i))) (stands.items.all w.by (size (rules_of i) w.by) 0 (length (held_words i)) w.held)
+          (and_from _ _ (eq-eqb _ _ w.heads) (and_from _ _ (eq-eqb (size (rules_of i) w.by) (size (rules_of i) w.by) refl) (eq-eqb (length (held_words i)) i.held held_long)))
 
   pub shows : IsLawful (state_of i)
   shows = record {
@@ -69,6 +148,9 @@ module _ (i : Inner) (stands : Stands i) where
         let past : q < i.budget = omega (arith, h, stands.fits) in
         omega (arith, ap (λ (t : Item). t.end) (place_seen p (omega (arith, l, past))), ap (λ (t : Item). t.end) (place_seen q past), stands.rising p q l h);
     blank = λ q l h. let inside : q < i.budget = omega (arith, h, places_long) in place_seen q inside ∙ stands.blank q l inside;
+    lit = lit_shown;
+    lit_apart = passed_apart (λ n. has (expected i) n && key_number n) 1 64;
+    whole = whole_shown;
   }
 
   -- no place in use is blank
@@ -135,3 +217,17 @@ module _ (e d : Inner) (now : Stands e) (then : Stands d) (is : before e ≡ d) 
       ∙ (ap (take from) (sym places_are)
       ∙ (ap (λ n. take n d.places) used_is
       ∙ sym (in_use_seen d then)))))
+
+-- a new draft
+pub is_new : (book : SoundBook) (first : SymbolSet) (chart : List Item) → IsNew book chart (state_of (opened book first chart))
+is_new book first chart =
+    let n = min 60000 (length chart) in
+    let blank_long : length (replicate (n - 0) blank_told) ≡ n = length-replicate (n - 0) blank_told ∙ omega arith in
+    let long = length-append (replicate (n - 0) blank_told) (drop n chart) in
+    record {
+      book = refl;
+      words = refl;
+      places = length-take-le n (replicate (n - 0) blank_told ++ drop n chart) (omega (arith, long, blank_long));
+      beyond = drop-append-drop n chart (replicate (n - 0) blank_told) n (omega arith) blank_long;
+      used = refl;
+    }

@@ -1,14 +1,15 @@
 -- The law of a draft: what it shows at every moment, and what each call answers and leaves.
-use Rattle.std.specs.Prelude.{◌≡◌, ℕ, ◌<◌, ◌≤◌, T, ◌↔◌, IsTrue, List, [], ◌∷◌, ◌++◌, length, take}
+use Rattle.std.specs.Prelude.{◌≡◌, ℕ, ◌<◌, ◌≤◌, T, ◌↔◌, IsTrue, min, List, [], ◌∷◌, ◌++◌, length, take, drop}
 use Rattle.language.specs.Book.{Grammar}
 use Rattle.language.specs.Words.{Word, only}
-use Rattle.language.specs.Readings.{Item, Begun, Used}
+use Rattle.language.specs.Readings.{Item, Begun, Used, Programme}
 use Rattle.language.specs.Columns.{Among, Apart}
-use Rattle.rulebook.specs.Sets.{has, many}
+use Rattle.rulebook.specs.Sets.{has}
 use Rattle.rulebook.specs.declared.faults.Fault.{Fault}
 use Rattle.rulebook.specs.declared.faults.Fault.TheVariants.{DraftFull, DarkWord, ChartFull, NothingHeld}
+use Rattle.soundbook.specs.declared.sounds.SoundBook.{SoundBook}
 use Rattle.chart.specs.Items.{blank_told}
-use Rattle.chart.specs.declared.drafts.LitSet.{LitSet}
+use Rattle.draft.specs.declared.lit_set.LitSet.{LitSet}
 use Rattle.draft.specs.States.{DraftState, grammar, words, place, in_use}
 
 -- A key may follow the words: some programme begins with the words followed by that key.
@@ -34,7 +35,8 @@ pub record ItemsFit (g : Grammar) (n : ℕ) (ws : List Word) : Type 0 where
   pub few : length items ≤ n
 
 -- At every moment: at most 100 words are held; the places in use hold exactly the items over the words held, each once, word by
--- word; the draft's other places are blank.
+-- word; the draft's other places are blank; a key is lit exactly when it may follow the words held; and the draft is whole
+-- exactly when they are a programme.
 pub record IsLawful (d : DraftState) : Type 0 where
   pub few : length (words d) ≤ 100
   pub few_places : length d.places ≤ 60000
@@ -42,6 +44,17 @@ pub record IsLawful (d : DraftState) : Type 0 where
   pub items : ItemsOver (grammar d) (words d) (in_use d)
   pub rising : (p q : ℕ) → p ≤ q → q < d.used → (place d p).end ≤ (place d q).end
   pub blank : (q : ℕ) → d.used ≤ q → q < length d.places → place d q ≡ blank_told
+  pub lit : (c : ℕ) → Among c d.lit ↔ MayFollow (grammar d) (words d) c
+  pub lit_apart : Apart d.lit
+  pub whole : IsTrue d.whole ↔ Programme (grammar d) (words d)
+
+-- a new draft over a chart: it holds no word, its places are the chart's first 60,000, or all, and the others are as they were
+pub record IsNew (b : SoundBook) (chart : List Item) (d : DraftState) : Type 0 where
+  pub book : d.book ≡ b
+  pub words : d.sets ≡ []
+  pub places : length d.places ≡ min 60000 (length chart)
+  pub beyond : d.beyond ≡ drop (min 60000 (length chart)) chart
+  pub used : d.used ≡ 0
 
 -- the book, the number of places and all past them are as they were
 pub record SameChart (old new : DraftState) : Type 0 where
@@ -89,7 +102,7 @@ pub record RubOutRefused (old new : DraftState) (f : Fault) : Type 0 where
   pub fault : f ≡ NothingHeld 0
   pub same : new ≡ old
 
--- lit: the keys that may follow, and how many they are
+-- lit: the lit keys, and how many they are
 pub record LitIs (d : DraftState) (l : LitSet) : Type 0 where
-  pub keys : (c : ℕ) → IsTrue (has l.keys c) ↔ MayFollow (grammar d) (words d) c
-  pub count : l.count ≡ many l.keys
+  pub keys : (c : ℕ) → IsTrue (has l.keys c) ↔ Among c d.lit
+  pub count : l.count ≡ length d.lit

@@ -1,4 +1,5 @@
 pub mod Law
+pub mod Questions
 pub mod Schema
 pub mod States
 pub mod Views

@@ -3,6 +3,8 @@
 #![tactic(auto)]
 
 mod draft;
+mod lit_set;
 
-pub use chart::{Item, LitSet};
+pub use chart::Item;
 pub use draft::Draft;
+pub use lit_set::LitSet;

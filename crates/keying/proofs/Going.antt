@@ -11,7 +11,7 @@ use Rattle.wording.specs.declared.pieces.Placed.{Placed}
 use Rattle.soundbook.specs.Sounds.{sound_meaning}
 use Rattle.soundbook.specs.declared.sounds.SoundBook.{SoundBook}
 use Rattle.chart.specs.Items.{blank_told}
-use Rattle.chart.specs.declared.drafts.LitSet.{LitSet}
+use Rattle.draft.specs.declared.lit_set.LitSet.{LitSet}
 use Rattle.draft.specs.Law.{IsLawful, PressAccepts, PressRefuses, PressTaken, LitIs}
 use Rattle.draft.specs.States.{grammar, words, in_use}
 use Rattle.dialogue.specs.Runs.{RunState, CallLaw, call_at, answer_at}

@@ -3,6 +3,7 @@ use Rattle.soundbook.specs.Sounds.{sound_meaning}
 use Rattle.soundbook.specs.declared.sounds.SoundBook.{SoundBook}
 use Rattle.chart.specs.Indexes.{IndexOf}
 use Rattle.chart.specs.Items.{told}
+use Rattle.chart.specs.Records.{wanted_in}
 use Rattle.chart.specs.States.{opened}
 use Rattle.chart.proofs.Changing.{opened_seen}
 use Rattle.chart.proofs.Keeping.{kept_opened}
@@ -18,7 +19,7 @@ invariant_of-result c =
 pub returns-clause-opened : goal.returns-clause-opened
 returns-clause-opened c =
     opened_seen c.of.result c.over.result c.args.chart.items c.of.ensures.records c.of.ensures.held c.over.ensures
-    ∙ ap (λ (b : Bor SoundBook). opened b.now (map told c.args.chart.items)) c.of.ensures.book
+    ∙ ap (λ (b : Bor SoundBook). opened b.now (wanted_in c.of.result 0) (map told c.args.chart.items)) c.of.ensures.book
 
 pub returns-clause-stands : goal.returns-clause-stands
 returns-clause-stands c =

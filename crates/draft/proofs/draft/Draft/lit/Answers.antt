@@ -4,8 +4,10 @@ use Rattle.draft.proofs.Answering.{lit_seen}
 use Rattle.draft.proofs.Showing.{shows}
 use Rattle.draft.proofs.draft.Draft.lit.Goals as goal
 
-pub returns-clause-shows : goal.returns-clause-shows
-returns-clause-shows c = subst IsLawful c.self.view_is (shows c.self.inside.chart c.self.invariant)
+pub returns-clause-lawful : goal.returns-clause-lawful
+returns-clause-lawful c = subst IsLawful c.self.view_is (shows c.self.inside.chart c.self.invariant)
 
 pub returns-clause-lit : goal.returns-clause-lit
-returns-clause-lit c = subst (λ d. LitIs d c.lit.result) c.self.view_is (lit_seen c.self.inside.chart c.self.invariant _ c.lit.ensures.lit)
+returns-clause-lit c =
+    subst (λ d. LitIs d (record { keys = c.lit_keys-keys.result; count = c.count.result })) c.self.view_is
+    (lit_seen c.self.inside.chart c.self.invariant (record { keys = c.lit_keys-keys.result; count = c.count.result }) c.lit_keys-keys.ensures.keys c.count.ensures)

@@ -7,8 +7,8 @@ use Rattle.draft.proofs.Answering.{rubbed_seen}
 use Rattle.draft.proofs.Showing.{shows}
 use Rattle.draft.proofs.draft.Draft.rub_out.Goals as goal
 
-pub returns-clause-shows : goal.returns-clause-shows
-returns-clause-shows c = shows c.rub_out.new.self c.rub_out.ensures.stands
+pub returns-clause-lawful : goal.returns-clause-lawful
+returns-clause-lawful c = shows c.rub_out.new.self c.rub_out.ensures.stands
 
 pub returns-clause-cases : goal.returns-clause-cases
 returns-clause-cases c =
