@@ -5,8 +5,8 @@ use Rattle.language.specs.Readings.{Item}
 use Rattle.rulebook.specs.declared.faults.Fault.{Fault}
 use Rattle.soundbook.specs.declared.sounds.SoundBook.{SoundBook}
 use Rattle.draft.specs.declared.lit_set.LitSet.{LitSet}
-use Rattle.draft.specs.Law.{IsLawful, SameChart}
-use Rattle.draft.specs.States.{DraftState, opened}
+use Rattle.draft.specs.Law.{IsLawful, IsNew, SameChart}
+use Rattle.draft.specs.States.{DraftState}
 use Rattle.reading.specs.declared.readings.Written.{Written}
 use Rattle.dialogue.specs.declared.calls.Call.{Call}
 use Rattle.dialogue.specs.declared.calls.Call.TheVariants.{Press, RubOut, Lit, Whole, Reading}
@@ -39,7 +39,7 @@ refused_same m n (Press w) a (inr (h, p, is), s) f r = alike m n p.same s
 refused_same m n RubOut a (inl (k, p, is), s) f r = absurd (items_taken k f a is r)
 refused_same m n RubOut a (inr (h, p, is), s) f r = alike m n p.same s
 refused_same m n Lit a ((l, lit, is), same) f r = same
-refused_same m n Whole a ((b, whole, is), same) f r = same
+refused_same m n Whole a (is, same) f r = same
 refused_same m n Reading a (inl (w, p, is), d) f r = absurd (moves_given w f a is r)
 refused_same m n Reading a (inr (h, p, is), d) f r = alike m n d p.1
 
@@ -53,7 +53,7 @@ same_chart m n (Press w) a (inr (h, p, is), s) = over_too m.draft n.draft p.same
 same_chart m n RubOut a (inl (k, p, is), s) = p.same
 same_chart m n RubOut a (inr (h, p, is), s) = over_too m.draft n.draft p.same
 same_chart m n Lit a (lit, same) = over_too m.draft n.draft (ap (λ (x : RunState). x.draft) same)
-same_chart m n Whole a (whole, same) = over_too m.draft n.draft (ap (λ (x : RunState). x.draft) same)
+same_chart m n Whole a (is, same) = over_too m.draft n.draft (ap (λ (x : RunState). x.draft) same)
 same_chart m n Reading a (read, d) = over_too m.draft n.draft d
 
 further : (c d e : DraftState) → SameChart c d → SameChart d e → SameChart c e
@@ -119,18 +119,19 @@ module _ (first : DraftState) where
       ran_more m n c a calls answers o shows same law (ran n o calls answers seen (further first m.draft n.draft same (same_chart m n c a law)) rest)
 
 -- on a new draft
-pub law_kept : (book : SoundBook) (lent : List Item) (s : List ℕ) (calls : List (Call Word)) (answers : List Answer) (last : RunState) (places : List Item) (left : List ℕ) → IsLawful (opened book lent)
-    → Chain (run_state (opened book lent) s) calls answers last → last.draft.places ++ last.draft.beyond ≡ places → last.strip ≡ left → RunLaw book lent s calls answers places left
-law_kept book lent s calls answers last places left shows chain back strip =
-    let r = ran (opened book lent) (run_state (opened book lent) s) last calls answers shows (over_too (opened book lent) (opened book lent) refl) chain in
+pub law_kept : (book : SoundBook) (chart : List Item) (first : RunState) (calls : List (Call Word)) (answers : List Answer) (last : RunState) (chart_left : List Item) → IsNew book chart first.draft → IsLawful first.draft
+    → Chain first calls answers last → last.draft.places ++ last.draft.beyond ≡ chart_left → RunLaw book chart first.strip calls answers chart_left last.strip
+law_kept book chart first calls answers last chart_left new lawful chain back =
+    let r = ran first.draft first last calls answers lawful (over_too first.draft first.draft refl) chain in
     record {
       state = r.state;
       answered = r.answered;
-      first = r.begins;
-      shows = r.shows;
-      same = r.same;
+      first = subst (λ (m : RunState). IsNew book chart m.draft) (sym r.begins) new;
+      first_strip = ap (λ (m : RunState). m.strip) r.begins;
+      lawful = r.shows;
+      same = λ k l. subst (λ (m : RunState). SameChart m.draft (r.state k).draft) (sym r.begins) (r.same k l);
       call = r.call;
       refused = λ k f l. refused_same (r.state k) (r.state (suc k)) (call_at calls k) (answer_at answers k) (r.call k l) f;
-      chart = ap (λ (m : RunState). m.draft.places ++ m.draft.beyond) r.ends ∙ back;
-      strip_left = ap (λ (m : RunState). m.strip) r.ends ∙ strip;
+      last = ap (λ (m : RunState). m.draft.places ++ m.draft.beyond) r.ends ∙ back;
+      last_strip = ap (λ (m : RunState). m.strip) r.ends;
     }

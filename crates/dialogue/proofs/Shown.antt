@@ -1,9 +1,8 @@
 -- What the law says of a sound book: a lit key is never dark, there is a programme, and presses of its keys are taken.
-use Rattle.std.proofs.Common.{◌≡◌, ℕ, zero, suc, ◌+◌, ◌<◌, ◌≤◌, min, List, [], ◌∷◌, ◌++◌, length, get_or, take, refl, sym, ap, ◌∙◌, subst, ⊎_elim, arith}
+use Rattle.std.proofs.Common.{◌≡◌, ℕ, zero, suc, ◌+◌, ◌<◌, ◌≤◌, min, map, List, [], ◌∷◌, ◌++◌, length, get_or, take, refl, sym, ap, ◌∙◌, subst, ⊎_elim, arith}
 use Rattle.std.proofs.Math.Dec.{eqb_refl}
 use Rattle.std.proofs.Math.Seq.{take-length}
-use Rattle.std.proofs.lemmas.List.{length-map, length-replicate, length-take-le, map_more, take-map}
-use Rattle.chart.specs.Items.{blank_told}
+use Rattle.std.proofs.lemmas.List.{length-map, length-take-le, map_more, take-map}
 use Rattle.language.specs.Book.{Grammar}
 use Rattle.language.specs.Sound.{Sound}
 use Rattle.language.specs.Words.{Word, only, Begins}
@@ -11,7 +10,9 @@ use Rattle.language.specs.Readings.{Item, Reading, yield, Programme}
 use Rattle.language.proofs.Chart.Turned.{turned_theorem}
 use Rattle.language.proofs.Known.{sound_known}
 use Rattle.language.proofs.Words.{begins_take}
+use Rattle.rulebook.specs.Sets.{has}
 use Rattle.rulebook.specs.declared.faults.Fault.{Fault}
+use Rattle.rulebook.specs.declared.sets.SymbolSet.{SymbolSet}
 use Rattle.rulebook.specs.declared.faults.Fault.TheVariants.{DarkWord}
 use Rattle.dialogue.specs.declared.calls.Call.{Call}
 use Rattle.dialogue.specs.declared.calls.Call.TheVariants.{Press}
@@ -82,10 +83,10 @@ module _ (b : SoundBook) where
   -- each state of a run is one of this book, with as many places
   module _ (lent : List Item) (strip : List ℕ) (calls : List (Call Word)) (answers : List Answer) (end : List Item) (left : List ℕ) (law : RunLaw b lent strip calls answers end left) (k : ℕ) (l : k ≤ length calls) where
     book_at : (law.state k).draft.book ≡ b
-    book_at = (law.same k l).book
+    book_at = (law.same k l).book ∙ law.first.book
 
     places_at : length (law.state k).draft.places ≡ min 60000 (length lent)
-    places_at = (law.same k l).long ∙ length-replicate (min 60000 (length lent)) blank_told
+    places_at = (law.same k l).long ∙ law.first.places
 
     of_book : (P : Grammar → ℕ → Type 0) → P (rules b) (min 60000 (length lent)) → P (grammar (law.state k).draft) (length (law.state k).draft.places)
     of_book P p = subst (λ n. P (grammar (law.state k).draft) n) (sym places_at) (subst (λ x. P (rules x) (min 60000 (length lent))) (sym book_at) p)
@@ -127,7 +128,7 @@ module _ (b : SoundBook) where
           }))
 
     held_after : (k : ℕ) → k ≤ length keys → words (law.state k).draft ≡ just (take k keys)
-    held_after zero l = ap (λ (m : RunState). words m.draft) law.first
+    held_after zero l = ap (λ (ss : List SymbolSet). map (λ (s : SymbolSet). has s) ss) law.first.words
     held_after (suc k) l =
         let h : k < length keys = omega (arith, l) in
         let before = held_after k (omega (arith, l)) in

@@ -1,10 +1,12 @@
 -- Calls as they are told: a word by the set of keys that it matches.
-use Rattle.std.specs.Prelude.{ℕ, Bool, List, map}
+use Rattle.std.specs.Prelude.{ℕ, Bool, List, Result, Ok, Err, map}
 use Rattle.language.specs.Words.{Word}
 use Rattle.wording.specs.Sets.{word_of}
 use Rattle.dialogue.specs.declared.calls.Call.{Call}
 use Rattle.dialogue.specs.declared.calls.Call.TheVariants.{Press, RubOut, Lit, Whole, Reading}
 use Rattle.dialogue.specs.declared.calls.Answer.{Answer}
+use Rattle.rulebook.specs.declared.faults.Fault.{Fault}
+use Rattle.dialogue.specs.declared.calls.Answer.TheVariants.{Refused}
 use Rattle.dialogue.specs.declared.calls.Exchange.{Exchange}
 
 -- a call, by the test that tells each word
@@ -24,3 +26,8 @@ calls_as_sets {W} tells es = map (λ (e : Exchange W). call_of tells e.call) es
 
 abbrev pub answers_in : {W : Type 0} → List (Exchange W) → List Answer
 answers_in {W} es = map (λ (e : Exchange W). e.answer) es
+
+-- what a call gives is its answer, and so is its refusal
+abbrev pub answer_of : Result Answer Fault → Answer
+answer_of (Ok a) = a
+answer_of (Err f) = Refused f

@@ -5,7 +5,7 @@ ghost use Rattle.soundbook.specs.Refusals.{CheckRefuses};
 ghost use Rattle.soundbook.specs.Sounds.{sound_meaning};
 ghost use Rattle.chart.specs.Items.{told};
 ghost use Rattle.draft.specs.Law.{IsLawful};
-ghost use Rattle.dialogue.specs.Calls.{call_of, calls_in, calls_as_sets, answers_in};
+ghost use Rattle.dialogue.specs.Calls.{answer_of, call_of, calls_in, calls_as_sets, answers_in};
 ghost use Rattle.dialogue.specs.Runs.{CallLaw, RunLaw, run_state};
 
 use super::calls::{Answer, Call, Exchange};
@@ -21,20 +21,26 @@ pub struct RunResult {
     pub checked: Result<(), Fault>,
 }
 
-// Makes a call, and answers it.
-fn make<W: Word>(draft: &mut Draft, call: &Call<W>, strip: &mut [u8]) -> Answer
-    ensures shows { IsLawful draft.new }
-    ensures law { CallLaw (run_state draft.old strip.old) (call_of W.tells call.now) result (run_state draft.new strip.new) }
+// What a call gives, or why it is refused.
+fn given<W: Word>(draft: &mut Draft, call: &Call<W>, strip: &mut [u8]) -> Result<Answer, Fault>
+    ensures lawful { IsLawful draft.new }
+    ensures law { CallLaw (run_state draft.old strip.old) (call_of W.tells call.now) (answer_of result) (run_state draft.new strip.new) }
 {
-    match call {
-        Call::Press(word) => draft
-            .press(word)
-            .map_or_else(Answer::Refused, Answer::Items),
-        Call::RubOut => draft.rub_out().map_or_else(Answer::Refused, Answer::Items),
+    Ok(match call {
+        Call::Press(word) => Answer::Items(draft.press(word)?),
+        Call::RubOut => Answer::Items(draft.rub_out()?),
         Call::Lit => Answer::Keys(draft.lit()),
         Call::Whole => Answer::Yes(draft.whole()),
-        Call::Reading => reading(draft, strip).map_or_else(Answer::Refused, Answer::Moves),
-    }
+        Call::Reading => Answer::Moves(reading(draft, strip)?),
+    })
+}
+
+// Makes a call, and answers it: here a refusal becomes an answer.
+fn make<W: Word>(draft: &mut Draft, call: &Call<W>, strip: &mut [u8]) -> Answer
+    ensures lawful { IsLawful draft.new }
+    ensures law { CallLaw (run_state draft.old strip.old) (call_of W.tells call.now) result (run_state draft.new strip.new) }
+{
+    given(draft, call, strip).unwrap_or_else(Answer::Refused)
 }
 
 /// Opens a new draft of a sound book over the chart, makes the calls in order, and answers each in its place. The chart comes

@@ -18,7 +18,7 @@ use Rattle.language.proofs.Order.First.{first_theorem}
 use Rattle.soundbook.specs.Sounds.{sound_meaning}
 use Rattle.soundbook.specs.declared.sounds.SoundBook.{SoundBook}
 use Rattle.draft.specs.Law.{IsLawful}
-use Rattle.draft.specs.States.{State as Seen, grammar, words}
+use Rattle.draft.specs.States.{DraftState, grammar, words}
 use Rattle.rulebook.specs.declared.faults.Fault.TheVariants.{NotWhole, StripShort}
 use Rattle.reading.specs.Walks.{OpenIs, OpensFirst, Owed}
 use Rattle.reading.specs.Written.{moves_of, rules_of, inner_of, ReadingWritten, ReadingRefused, Rooted}
@@ -59,9 +59,9 @@ root g ws X n top start many opens t = record {
     opened = subst (λ us. (u : Reads g g.start us) → Least u → (top.choice.rule ≡ u.reading.by) × OpenIs g ws top 0 u.reading.children) (between_all ws) (there (first g.start self) (omega arith)) t.reads t.least
 
 -- the words held are a programme, whose first reading is opened
-pub rooted : (d : Seen) → IsLawful d → Programme (grammar d) (words d) → (X n held : ℕ) (top : Open)
+pub rooted : (d : DraftState) → IsLawful d → Programme (grammar d) (words d) → (X n held : ℕ) (top : Open)
     → X ≡ (grammar d).start → n ≡ length (words d) → held ≡ n → OpensFirst (grammar d) (words d) X 0 n top → Rooted (grammar d) (words d) top held
-rooted d shows programme X n held top start many is opens =
+rooted d lawful programme X n held top start many is opens =
     let ws = words d in
     let p = programmes d.book ws in
     let t = p.exists programme in
@@ -69,7 +69,7 @@ rooted d shows programme X n held top start many is opens =
       first = t;
       owed = root (grammar d) ws X n top start many opens t;
       words = is ∙ many;
-      few_words = shows.few;
+      few_words = lawful.few;
       known = p.known t.reads;
       deep = p.deep t.reads;
     }

@@ -37,7 +37,7 @@ fn write_all(draft: &Draft, top: Open, held: usize, strip: &mut [u8]) -> Result<
 // Writes the moves of the first reading of the words held to the front of the strip. Refused where the words are no
 // programme, then where the strip has too few places; then it stays. With 12,836 places it is never refused for space.
 pub fn reading(draft: &Draft, strip: &mut [u8]) -> Result<Written, Fault>
-    ensures shows { IsLawful draft.now }
+    ensures lawful { IsLawful draft.now }
     ensures read { let g = grammar draft.now in let ws = words draft.now in MatchResult result (ReadingWritten g ws strip.old strip.new) (λ f. ReadingRefused g ws (length strip.old) f × (strip.new ≡ strip.old)) }
     ensures space { (held : ℕ) → 12836 ≤ length strip.old → result ≡ Err (StripShort held) → ⊥ }
 {
