@@ -37,7 +37,7 @@ module _ (b : SoundBook) (pieces : List Placed) (answers : List Answer) (run : K
   -- the moves of the first reading fit the strip, since there are at most 100 words
   fits : (t : First (grammar old.draft) (grammar old.draft).start (words old.draft)) → length (moves_of t) ≤ length old.strip
   fits t =
-      let few = (run.law.shows (2 * length pieces) inside).few in
+      let few = (run.law.lawful (2 * length pieces) inside).few in
       let moves = (moves_theorem (sound_meaning old.draft.book) (sound_known (sound_meaning old.draft.book) old.draft.book.sound) (words old.draft) t.reads).few_moves few in
       let long : length old.strip ≡ 12836 = ap length so_far.strip ∙ run.long in
       omega (arith, moves, long)

@@ -1,16 +1,17 @@
 -- A programme is keyed in: what is known after some of its words, and what the answers of a further word add.
 use Rattle.std.proofs.Common.{◌≡◌, ℕ, false, suc, ◌+◌, ◌*◌, ◌<◌, ◌≤◌, min, List, [], ◌∷◌, ◌++◌, map, length, get_or, take, drop, Option, refl, sym, ap, ◌∙◌, subst, ⊎_elim, arith, length-append}
-use Rattle.std.proofs.lemmas.List.{drop_more, get_or_read_under, length-map, length-replicate, length-take-le, map_more}
+use Rattle.std.proofs.lemmas.List.{drop_more, get_or_read_under, length-map, length-take-le, map_more}
 use Rattle.language.specs.Book.{Grammar, Meaning}
 use Rattle.language.specs.Words.{Word}
 use Rattle.lines.specs.Columns.{told_fault, told_word}
+use Rattle.rulebook.specs.Sets.{has}
+use Rattle.rulebook.specs.declared.sets.SymbolSet.{SymbolSet}
 use Rattle.rulebook.specs.declared.faults.Fault.{Fault}
 use Rattle.rulebook.specs.declared.faults.Fault.TheVariants.{Counts}
 use Rattle.wording.specs.Programmes.{nothing}
 use Rattle.wording.specs.declared.pieces.Placed.{Placed}
 use Rattle.soundbook.specs.Sounds.{sound_meaning}
 use Rattle.soundbook.specs.declared.sounds.SoundBook.{SoundBook}
-use Rattle.chart.specs.Items.{blank_told}
 use Rattle.draft.specs.declared.lit_set.LitSet.{LitSet}
 use Rattle.draft.specs.Law.{IsLawful, PressAccepts, PressRefuses, PressTaken, LitIs}
 use Rattle.draft.specs.States.{grammar, words, in_use}
@@ -22,21 +23,20 @@ use Rattle.dialogue.specs.declared.calls.Answer.TheVariants.{Items, Yes, Refused
 use Rattle.keying.specs.Keyed.{piece_word, WordLine, Lines, LastLine, AllKeyed, keying, KeyedRun, WordSaid}
 use Rattle.keying.proofs.Calling.{keying_many, keying_press, keying_lit}
 use Rattle.dialogue.proofs.Running.{items_taken}
-use Rattle.keying.proofs.Listed.{symbols, symbols_are, symbols_apart, symbols_many}
 
 -- the line of the last of the words held, by the answer of lit
 line_of : (m : RunState) (l : LitSet) (n : ℕ) → IsLawful m.draft → LitIs m.draft l → n ≡ length (words m.draft) → WordLine (grammar m.draft) (words m.draft) (told_word n m.draft.used l.count)
-line_of m l n shows lit many = record {
+line_of m l n lawful lit many = record {
   items = in_use m.draft;
-  over = shows.items;
-  lit = symbols l.keys;
-  keys = λ c. (λ h. (lit.keys c).0 ((symbols_are l.keys c).0 h), λ h. (symbols_are l.keys c).1 ((lit.keys c).1 h));
-  apart = symbols_apart l.keys;
-  said = ap (λ n. told_word n m.draft.used l.count) many ∙ (ap (λ u. told_word (length (words m.draft)) u l.count) used ∙ ap (told_word (length (words m.draft)) (length (in_use m.draft))) (lit.count ∙ sym (symbols_many l.keys)));
+  over = lawful.items;
+  lit = m.draft.lit;
+  keys = lawful.lit;
+  apart = lawful.lit_apart;
+  said = ap (λ n. told_word n m.draft.used l.count) many ∙ (ap (λ u. told_word (length (words m.draft)) u l.count) used ∙ ap (told_word (length (words m.draft)) (length (in_use m.draft))) lit.count);
 }
   where
     used : m.draft.used ≡ length (in_use m.draft)
-    used = sym (length-take-le m.draft.used m.draft.places shows.fits)
+    used = sym (length-take-le m.draft.used m.draft.places lawful.fits)
 
 -- the fault of an answer that is a refusal
 abbrev fault_in : Answer → Fault
@@ -65,7 +65,7 @@ module _ (b : SoundBook) (pieces : List Placed) (answers : List Answer) (run : K
 
   -- none is at first
   pub going_first : (s : List ℕ) → s ≡ [] → Going 0 s
-  going_first s none = subst (Going 0) (sym none) (record { words = ap (λ (x : RunState). words x.draft) run.law.first; strip = ap (λ (x : RunState). x.strip) run.law.first; lines = Lines.none })
+  going_first s none = subst (Going 0) (sym none) (record { words = ap (λ (ss : List SymbolSet). map (λ (x : SymbolSet). has x) ss) run.law.first.words; strip = run.law.first_strip; lines = Lines.none })
 
   pub many_calls : length calls ≡ 2 * length pieces + 1
   many_calls = keying_many (piece_word m) pieces
@@ -83,8 +83,8 @@ module _ (b : SoundBook) (pieces : List Placed) (answers : List Answer) (run : K
   -- each state is one of this book, with 8,000 places
   pub of_book : (k : ℕ) → k ≤ length calls → (P : Grammar → ℕ → Type 0) → P (grammar (state k).draft) (length (state k).draft.places) → P m.grammar 8000
   of_book k low P p =
-      subst (λ n. P m.grammar n) ((run.law.same k low).long ∙ (length-replicate (min 60000 (length run.lent)) blank_told ∙ ap (min 60000) run.many))
-      (subst (λ (x : SoundBook). P (sound_meaning x).grammar (length (state k).draft.places)) (run.law.same k low).book p)
+      subst (λ n. P m.grammar n) ((run.law.same k low).long ∙ (run.law.first.places ∙ ap (min 60000) run.many))
+      (subst (λ (x : SoundBook). P (sound_meaning x).grammar (length (state k).draft.places)) ((run.law.same k low).book ∙ run.law.first.book) p)
 
   -- a further word, and the answers of its press and of lit
   module _ (taken : ℕ) (inside : taken < length pieces) (pressed : Answer) (is_pressed : pressed ≡ get_or answers (2 * taken) pressed) where
@@ -161,7 +161,7 @@ module _ (b : SoundBook) (pieces : List Placed) (answers : List Answer) (run : K
               (subst (λ ws. WordLine m.grammar ws l) now
               (of_book (suc (2 * taken)) between (λ g n. WordLine g (words mid.draft) l)
               (subst (WordLine (grammar mid.draft) (words mid.draft)) (sym (told ∙ ap (λ n. told_word (taken + 1) n lit_law.0.0.count) held.answer))
-              (line_of mid lit_law.0.0 (taken + 1) (run.law.shows (suc (2 * taken)) between) lit_law.0.1 many)))));
+              (line_of mid lit_law.0.0 (taken + 1) (run.law.lawful (suc (2 * taken)) between) lit_law.0.1 many)))));
         }
           where
             between : suc (2 * taken) ≤ length calls

@@ -1,5 +1,4 @@
 pub mod Calling
 pub mod Ending
 pub mod Going
-pub mod Listed
 pub mod Running
