@@ -4,5 +4,5 @@
 mod programmes;
 mod sources;
 
-pub use programmes::keyed;
-pub use sources::read_programme;
+pub use programmes::programme_lines;
+pub use sources::{keyed, read_programme};

@@ -3,9 +3,8 @@ ghost use Rattle.std.specs.Prelude.{◌≡◌, map, string_bytes, IfOk, MatchOpt
 ghost use Rattle.soundbook.specs.Sounds.{sound_meaning};
 ghost use Rattle.dialogue.specs.Calls.{calls_as_sets, answers_in};
 ghost use Rattle.dialogue.specs.declared.calls.Answer.TheVariants.{Refused};
-ghost use Rattle.keying.specs.Keyed.{piece_word, keying, spelled_tells, KeyedRun, WordSaid, LastSaid, AllKeyed, KeyedIn, Keyed};
+ghost use Rattle.keying.specs.Keyed.{piece_word, keying, spelled_tells, KeyedRun, WordSaid, LastSaid, AllKeyed, KeyedIn};
 
-use bookreport::sound_book;
 use dialogue::{Answer, Call, Exchange, run};
 use draft::Item;
 use lines::{fault_line, whole_line, word_line};
@@ -117,12 +116,10 @@ fn key_words(heap: Global, book: &SoundBook, programme: &Programme) -> Result<St
     Ok(said)
 }
 
-// All that keyin prints, given the text of the book and that of the programme.
-pub fn keyed(heap: Global, book: &[u8], programme: &[u8]) -> Result<String, AllocError>
-    ensures { IfOk result (λ s. Keyed book.now programme.now (string_bytes s)) }
+/// What is said of a programme text that is keyed in by the rules of a sound book: a line for each word that is taken, and the
+/// last line. Where it runs out of memory nothing is left behind.
+pub fn programme_lines(heap: Global, book: &SoundBook, text: &[u8]) -> Result<String, AllocError>
+    ensures { IfOk result (λ s. KeyedIn (sound_meaning book.now) text.now (string_bytes s)) }
 {
-    match sound_book(book) {
-        Ok(book) => key_words(heap, &book, &cut(heap, programme)?),
-        Err(fault) => fault_line(heap, &fault),
-    }
+    key_words(heap, book, &cut(heap, text)?)
 }
