@@ -23,16 +23,16 @@ abbrev step : List ℕ
 step = 2 ∷ 33 ∷ 34 ∷ 36 ∷ []
 
 -- the items over the words, column by column
-abbrev one : List Item
+abbrev pub one : List Item
 one = item 3 1 0 1 ∷ []
 
 abbrev two : List Item
 two = item 3 1 0 1 ∷ item 3 2 0 2 ∷ item 1 1 0 2 ∷ item 2 1 0 2 ∷ []
 
-abbrev three : List Item
+abbrev pub three : List Item
 three = item 3 1 0 1 ∷ item 3 2 0 2 ∷ item 1 1 0 2 ∷ item 2 1 0 2 ∷ item 4 1 2 3 ∷ []
 
-abbrev four : List Item
+abbrev pub four : List Item
 four = item 3 1 0 1 ∷ item 3 2 0 2 ∷ item 1 1 0 2 ∷ item 2 1 0 2 ∷ item 4 1 2 3 ∷ item 4 2 2 4 ∷ item 2 2 0 4 ∷ item 2 1 0 4 ∷ []
 
 abbrev cycle : List Item

@@ -6,5 +6,6 @@ pub mod Computed
 pub mod Corners
 pub mod Items
 pub mod Others
+pub mod Presses
 pub mod Shown
 pub mod Sound

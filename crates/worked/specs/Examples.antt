@@ -12,7 +12,10 @@ use Rattle.draft.specs.Law.{PressAccepts, PressRefuses}
 use Rattle.rulebook.specs.declared.faults.Fault.TheVariants.{DarkWord, ChartFull, Unproductive, UnitCycle}
 use Rattle.soundbook.specs.Refusals.{Refused}
 use Rattle.soundbook.specs.Works.{works}
+use Rattle.soundbook.specs.Sounds.{sound_meaning}
+use Rattle.soundbook.specs.declared.sounds.SoundBook.{SoundBook}
 use Rattle.worked.specs.Books.{book_a, letters_b, book_b, endless, circular, pressed}
+use Rattle.worked.specs.Presses.{PressExamples}
 
 -- over the words stand exactly these items, and exactly these keys are lit
 pub record Shows (g : Grammar) (ws : List Word) (ts : List Item) (cs : List ℕ) : Type 0 where
@@ -38,12 +41,14 @@ pub record Examples : Type 0 where
   -- two words: four items, whole
   pub two_held : Shows book_a (pressed (33 ∷ 35 ∷ [])) (item 3 1 0 1 ∷ item 3 2 0 2 ∷ item 1 1 0 2 ∷ item 2 1 0 2 ∷ []) (33 ∷ 34 ∷ 36 ∷ [])
   pub two_whole : Programme book_a (pressed (33 ∷ 35 ∷ []))
-  -- three words: five items, so two of 7 places are blank; not whole
+  -- three words: five items, not whole
   pub three_held : Shows book_a (pressed (33 ∷ 35 ∷ 34 ∷ [])) (item 3 1 0 1 ∷ item 3 2 0 2 ∷ item 1 1 0 2 ∷ item 2 1 0 2 ∷ item 4 1 2 3 ∷ []) (35 ∷ [])
   pub three_short : Programme book_a (pressed (33 ∷ 35 ∷ 34 ∷ [])) → ⊥
   -- the fourth word wants 8 places: with 7 it is refused, with 8 it is taken
   pub four_crowded : PressRefuses book_a 7 (pressed (33 ∷ 35 ∷ 34 ∷ [])) (only 35) (ChartFull 3)
   pub four_taken : PressAccepts book_a 8 (pressed (33 ∷ 35 ∷ 34 ∷ [])) (only 35)
+  -- what such presses answer and leave, over each sound book that means Book A
+  pub presses : (b : SoundBook) → sound_meaning b ≡ works → PressExamples b
   pub four_held : Shows book_a (pressed (33 ∷ 35 ∷ 34 ∷ 35 ∷ []))
       (item 3 1 0 1 ∷ item 3 2 0 2 ∷ item 1 1 0 2 ∷ item 2 1 0 2 ∷ item 4 1 2 3 ∷ item 4 2 2 4 ∷ item 2 2 0 4 ∷ item 2 1 0 4 ∷ [])
       (33 ∷ 34 ∷ 36 ∷ [])

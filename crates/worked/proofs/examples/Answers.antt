@@ -2,6 +2,7 @@ use Rattle.std.proofs.Common.{refl}
 use Rattle.worked.proofs.examples.Goals as goal
 use Rattle.worked.proofs.BookA as a
 use Rattle.worked.proofs.Others as others
+use Rattle.worked.proofs.Presses as presses
 
 pub returns : goal.returns
 returns c = record {
@@ -19,6 +20,7 @@ returns c = record {
   four_crowded = others.four_crowded;
   four_taken = others.four_taken;
   four_held = a.four_held;
+  presses = presses.press_examples;
   four_moves = a.four_moves;
   cycle_held = a.cycle_held;
   cycle_short = a.cycle_short;
