@@ -1,4 +1,4 @@
-// The calls of a draft, and their answers.
+//! The calls of a draft, and their answers.
 use draft::LitSet;
 use reading::Written;
 use rulebook::Fault;

@@ -1,4 +1,4 @@
-// Runs of calls on a draft.
+//! Runs of calls on a draft.
 #![tactic(auto)]
 
 mod calls;

@@ -1,5 +1,5 @@
-// Runs of calls on a new draft.
-ghost use Rattle.std.specs.Prelude.{◌≡◌, map, MatchResult};
+//! Runs of calls on a new draft.
+ghost use Rattle.std.specs.Prelude.{◌≡◌, map, IfErr, OnErr, OnOk};
 ghost use Rattle.language.specs.Sound.{Sound};
 ghost use Rattle.soundbook.specs.Refusals.{CheckRefuses};
 ghost use Rattle.soundbook.specs.Sounds.{sound_meaning};
@@ -44,7 +44,7 @@ fn make<W: Word>(draft: &mut Draft, call: &Call<W>, strip: &mut [u8]) -> Answer
 }
 
 /// Opens a new draft of a sound book over the chart, makes the calls in order, and answers each in its place. The chart comes
-/// back.
+/// back. It refuses nothing and takes no memory; a refused call is answered, and the calls behind it are made.
 pub fn run<W: Word>(
     book: &SoundBook,
     chart: Vec<Item>,
@@ -61,8 +61,8 @@ pub fn run<W: Word>(
     draft.into_chart()
 }
 
-/// Checks a book of any make into a place, and makes the calls on a new draft of it. A book that does not pass is refused, and
-/// then all is as it was.
+/// Checks a book of any make into a place, opens a new draft of it over the chart, makes the calls in order, and answers each
+/// in its place. A book that does not pass is refused (11 to 18), and then place, exchanges, chart and strip are as they were.
 pub fn check_and_run<B: Book, W: Word>(
     book: &B,
     place: &mut SoundBook,
@@ -70,7 +70,16 @@ pub fn check_and_run<B: Book, W: Word>(
     exchanges: &mut [Exchange<W>],
     strip: &mut [u8],
 ) -> RunResult
-    ensures { MatchResult result.checked (λ _. Sound (B.meaning book.now) × (sound_meaning place.new ≡ B.meaning book.now) × (calls_in exchanges.new ≡ calls_in exchanges.old) × RunLaw place.new (map told chart.items) strip.old (calls_as_sets W.tells exchanges.old) (answers_in exchanges.new) (map told result.chart.items) strip.new) (λ f. CheckRefuses (B.meaning book.now) f × (place.new ≡ place.old) × (exchanges.new ≡ exchanges.old) × (result.chart.items ≡ chart.items) × (strip.new ≡ strip.old)) }
+    ensures sound { OnOk result.checked (Sound (B.meaning book.now)) }
+    ensures place { OnOk result.checked (sound_meaning place.new ≡ B.meaning book.now) }
+    ensures calls { OnOk result.checked (calls_in exchanges.new ≡ calls_in exchanges.old) }
+    ensures law { OnOk result.checked (RunLaw place.new (map told chart.items) strip.old (calls_as_sets W.tells exchanges.old) (answers_in exchanges.new) (map told result.chart.items) strip.new) }
+
+    ensures refused { IfErr result.checked (CheckRefuses (B.meaning book.now)) }
+    ensures same_place { OnErr result.checked (place.new ≡ place.old) }
+    ensures same_exchanges { OnErr result.checked (exchanges.new ≡ exchanges.old) }
+    ensures same_chart { OnErr result.checked (result.chart.items ≡ chart.items) }
+    ensures same_strip { OnErr result.checked (strip.new ≡ strip.old) }
 {
     if let Err(fault) = check(book, place) {
         return RunResult {
