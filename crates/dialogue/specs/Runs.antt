@@ -22,17 +22,17 @@ abbrev pub run_state : DraftState → List ℕ → RunState
 run_state d s = record { draft = d; strip = s }
 
 -- A call is answered with what it gives, or refused; taken and refused say what then holds.
-abbrev pub Answered : {A : Type 0} → (A → Answer) → (A → Type 0) → (Fault → Type 0) → Answer → Type 0
-Answered {A} gives taken refused a = ((x : A) × taken x × (a ≡ gives x)) ⊎ ((f : Fault) × refused f × (a ≡ Refused f))
+abbrev pub AnswerIs : {A : Type 0} → (A → Answer) → (A → Type 0) → (Fault → Type 0) → Answer → Type 0
+AnswerIs {A} gives taken refused a = ((x : A) × taken x × (a ≡ gives x)) ⊎ ((f : Fault) × refused f × (a ≡ Refused f))
 
 -- what each call answers, and what it leaves
 abbrev pub CallLaw : RunState → Call Word → Answer → RunState → Type 0
-CallLaw old (Press w) a new = Answered Items (PressTaken old.draft new.draft w) (PressRefused old.draft new.draft w) a × (new.strip ≡ old.strip)
-CallLaw old RubOut a new = Answered Items (RubOutTaken old.draft new.draft) (RubOutRefused old.draft new.draft) a × (new.strip ≡ old.strip)
+CallLaw old (Press w) a new = AnswerIs Items (PressTaken old.draft new.draft w) (PressRefused old.draft new.draft w) a × (new.strip ≡ old.strip)
+CallLaw old RubOut a new = AnswerIs Items (RubOutTaken old.draft new.draft) (RubOutRefused old.draft new.draft) a × (new.strip ≡ old.strip)
 CallLaw old Lit a new = ((l : LitSet) × LitIs old.draft l × (a ≡ Keys l)) × (new ≡ old)
 CallLaw old Whole a new = (a ≡ Yes old.draft.whole) × (new ≡ old)
 CallLaw old Reading a new =
-    Answered Moves (ReadingWritten (grammar old.draft) (words old.draft) old.strip new.strip) (λ f. ReadingRefused (grammar old.draft) (words old.draft) (length old.strip) f × (new.strip ≡ old.strip)) a
+    AnswerIs Moves (ReadingWritten (grammar old.draft) (words old.draft) old.strip new.strip) (λ f. ReadingRefused (grammar old.draft) (words old.draft) (length old.strip) f × (new.strip ≡ old.strip)) a
     × (new.draft ≡ old.draft)
 
 -- the call of a number, counted from 0, and its answer

@@ -22,7 +22,7 @@ pub struct RunResult {
 }
 
 // What a call gives, or why it is refused.
-fn given<W: Word>(draft: &mut Draft, call: &Call<W>, strip: &mut [u8]) -> Result<Answer, Fault>
+fn outcome<W: Word>(draft: &mut Draft, call: &Call<W>, strip: &mut [u8]) -> Result<Answer, Fault>
     ensures lawful { IsLawful draft.new }
     ensures law { CallLaw (run_state draft.old strip.old) (call_of W.tells call.now) (answer_of result) (run_state draft.new strip.new) }
 {
@@ -40,7 +40,7 @@ fn make<W: Word>(draft: &mut Draft, call: &Call<W>, strip: &mut [u8]) -> Answer
     ensures lawful { IsLawful draft.new }
     ensures law { CallLaw (run_state draft.old strip.old) (call_of W.tells call.now) result (run_state draft.new strip.new) }
 {
-    given(draft, call, strip).unwrap_or_else(Answer::Refused)
+    outcome(draft, call, strip).unwrap_or_else(Answer::Refused)
 }
 
 /// Opens a new draft of a sound book over the chart, makes the calls in order, and answers each in its place. The chart comes
