@@ -1,5 +1,5 @@
 // A whole programme text, cut into its words.
-ghost use Rattle.std.specs.Prelude.{◌≤◌, length, IfOk};
+ghost use Rattle.std.specs.Prelude.{◌≡◌, IfOk};
 ghost use Rattle.wording.specs.Programmes.{CutAs};
 
 use super::cutter::Cutter;
@@ -7,25 +7,22 @@ use super::pieces::{Piece, Placed};
 use rulebook::Fault;
 use std::alloc::{AllocError, Global};
 
-// The most bytes of a programme text.
-const LONGEST: usize = 4096;
-
-// The words of a text from the front, up to the first question that is answered no.
+/// The words of a text from the front, up to the first question that is answered no.
 #[derive(Debug, PartialEq, Eq, Drop)]
 pub struct Programme<'t> {
+    /// the words, from the front
     pub words: Vec<Placed<'t>>,
-    // the refusal that follows the words, or none where they are all
+    /// the refusal that follows the words, or none where they are all
     pub fault: Option<Fault>,
 }
 
-// The words of a text that is short enough.
-fn cut_words(heap: Global, text: &[u8]) -> Result<Programme<'_>, AllocError>
-    requires { length text.now ≤ 4096 }
-    ensures { IfOk result (λ p. CutAs text.now p.words.items p.fault) }
+// The words of a text that is not yet cut.
+fn cut_words<'t>(heap: Global, mut cutter: Cutter<'t>) -> Result<Programme<'t>, AllocError>
+    requires front { cutter.at ≡ 0 }
+    ensures { IfOk result (λ p. CutAs cutter.entry.text.now p.words.items p.fault) }
 {
     // A loop with two ends, the text's and a refusal, and both are told.
     let mut words = Vec::new(heap);
-    let mut cutter = Cutter::new(text);
     loop {
         match cutter.next_piece() {
             Ok(word) => match word.piece {
@@ -42,15 +39,16 @@ fn cut_words(heap: Global, text: &[u8]) -> Result<Programme<'_>, AllocError>
     }
 }
 
-// Cuts a programme text into its words; one that is too long has none.
+/// Cuts a programme text into its words, up to the first that is refused, and tells that refusal. A text of more than 4,096
+/// bytes is refused whole, with `Fault::ProgrammeLength`, and has no words. The only error is that memory ran out.
 pub fn cut(heap: Global, text: &[u8]) -> Result<Programme<'_>, AllocError>
     ensures { IfOk result (λ p. CutAs text.now p.words.items p.fault) }
 {
-    if text.len() > LONGEST {
-        return Ok(Programme {
+    match Cutter::new(text) {
+        Ok(cutter) => cut_words(heap, cutter),
+        Err(fault) => Ok(Programme {
             words: Vec::new(heap),
-            fault: Some(Fault::ProgrammeLength),
-        });
+            fault: Some(fault),
+        }),
     }
-    cut_words(heap, text)
 }

@@ -1,6 +1,5 @@
-use Rattle.std.proofs.Common.{arith}
 use Rattle.wording.specs.Programmes.{Stopped}
 use Rattle.wording.proofs.programmes.cut.Goals as goal
 
-pub returns-then-text-gt-LONGEST : goal.returns-then-text-gt-LONGEST
-returns-then-text-gt-LONGEST c = Stopped.long (omega (arith, c.if-text-gt-LONGEST.true)) c.new.ensures.items
+pub returns-in-Err : goal.returns-in-Err
+returns-in-Err c = rw c.in-Err.ensures.fault (Stopped.long c.in-Err.ensures.long c.new-in-Err.ensures.items)
