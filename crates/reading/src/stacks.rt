@@ -1,11 +1,12 @@
 // A stack over a lent slice, for every kind of element.
-ghost use Rattle.std.specs.Prelude.{◌≡◌, ◌≤◌, List, [], ◌∷◌, length, replicate, MatchOption, MatchResult};
+ghost use Rattle.std.specs.Prelude.{◌≡◌, ◌≤◌, List, [], ◌∷◌, drop, length, replicate, IfNone, IfSome, OnErr, OnOk};
 
-// What may stand on a stack.
+/// What may stand on a stack.
 pub trait Blank: Copy {
-    // what stands in a place that is not in use
+    // what a place holds that is left blank
     ghost blank: { Self };
 
+    /// What a place holds that is left blank.
     fn blank() -> Self
         ensures { result ≡ blank };
 }
@@ -28,12 +29,12 @@ fn wipe<T: Blank>(room: &mut [T])
     }
 }
 
-// No place is left for an element.
+/// No place is left for an element.
 #[derive(Clone, Copy, Debug)]
 pub struct Full;
 
-// A stack over a lent slice, its room: the lowest element stands in the first place. When the stack is dropped, the room
-// is blank.
+/// A stack over a lent slice, its room. The lowest element stands in the first place of the room, and the places above the
+/// top hold what was left there. When the stack is dropped, the whole room is blank.
 pub struct Stack<'a, T: Blank> {
     room: &'a mut [T],
     len: usize,
@@ -41,21 +42,25 @@ pub struct Stack<'a, T: Blank> {
 }
 
 impl<'a, T: Blank> Stack<'a, T> {
-    ghost use Rattle.reading.specs.Stacks.{places, stacked, SameRoom};
+    ghost use Rattle.reading.specs.Stacks.{above_top, places, stacked, SameRoom};
 
-    // An empty stack.
+    /// An empty stack; every place of the room stays as it was lent.
     pub fn over(room: &'a mut [T]) -> Stack<'a, T>
         ensures same_room { result.room.ghost_name ≡ room.entry.ghost_name }
-        ensures places { places result ≡ length room.old }
+        ensures lent { result.room.now ≡ room.old }
         ensures empty { stacked result ≡ [] }
     {
         Stack { room, len: 0 }
     }
 
-    // Puts an element on top; a full stack refuses it and stays.
+    /// Puts an element on top, in the first place above the old top; every other place stays as it was. A full stack refuses
+    /// it, and all stays.
     pub fn push(&mut self, item: T) -> Result<(), Full>
         ensures room { SameRoom self.old self.new }
-        ensures taken { MatchResult result (λ _. stacked self.new ≡ item ∷ stacked self.old) (λ _. (self.new ≡ self.old) × (length (stacked self.old) ≡ places self.old)) }
+        ensures pushed { OnOk result (stacked self.new ≡ item ∷ stacked self.old) }
+        ensures above { OnOk result (above_top self.new ≡ drop 1 (above_top self.old)) }
+        ensures full { OnErr result (length (stacked self.old) ≡ places self.old) }
+        ensures unchanged { OnErr result (self.new ≡ self.old) }
     {
         if self.len == self.room.len() {
             return Err(Full);
@@ -65,26 +70,31 @@ impl<'a, T: Blank> Stack<'a, T> {
         Ok(())
     }
 
-    // Takes the top off, or none where there is none.
+    /// Takes the top off, or none where there is none. Every place of the room stays as it was, the one of the top too.
+    #[tactic(auto, using(crate::proofs::Stacked::rest_at))]
     pub fn pop(&mut self) -> Option<T>
         ensures room { SameRoom self.old self.new }
-        ensures taken { MatchOption result ((stacked self.old ≡ []) × (stacked self.new ≡ [])) (λ x. stacked self.old ≡ x ∷ stacked self.new) }
+        ensures content { self.new.room.now ≡ self.old.room.now }
+        ensures popped { IfSome result (λ x. stacked self.old ≡ x ∷ stacked self.new) }
+        ensures none { IfNone result (stacked self.old ≡ []) }
+        ensures unchanged { IfNone result (self.new ≡ self.old) }
     {
         let top = self.top()?;
         self.len -= 1;
         Some(top)
     }
 
-    // The top, or none where there is none.
+    /// The top, or none where there is none. The stack and its room stay.
     pub fn top(&self) -> Option<T>
-        ensures { MatchOption result (stacked self.now ≡ []) (λ x. (rest : List T) × (stacked self.now ≡ x ∷ rest)) }
+        ensures top { IfSome result (λ x. (rest : List T) × (stacked self.now ≡ x ∷ rest)) }
+        ensures none { IfNone result (stacked self.now ≡ []) }
     {
         let place = self.len.checked_sub(1)?;
         let room = &*self.room;
         Some(room[place])
     }
 
-    // Takes all elements off, and leaves the whole room blank.
+    /// Takes all elements off, and leaves every place of the room blank.
     pub fn clear(&mut self)
         ensures room { SameRoom self.old self.new }
         ensures empty { stacked self.new ≡ [] }
@@ -97,7 +107,7 @@ impl<'a, T: Blank> Stack<'a, T> {
 
 impl<T: Blank> Drop for Stack<'_, T> {
     fn drop(self)
-        ensures { self.exit.0.now ≡ replicate (length self.entry.room.now) T.blank }
+        ensures blank { self.exit.0.now ≡ replicate (length self.entry.room.now) T.blank }
     {
         let Stack { room, len: _ } = self;
         wipe(room);

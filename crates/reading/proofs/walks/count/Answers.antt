@@ -1,11 +1,11 @@
-use Rattle.std.proofs.Common.{◌∙◌, arith}
+use Rattle.std.proofs.Common.{length, ap, ◌∙◌, arith}
 use Rattle.reading.proofs.Passing.{kept_one, counted_first, counted_more, counted_few, counted_all}
 use Rattle.reading.proofs.walks.count.Goals as goal
 
 pub loop-behind-init : goal.loop-behind-init
 loop-behind-init c = (
-  c.keep.ensures.room.places ∙ c.over-stack.ensures.places,
-  counted_first _ _ _ _ _ (kept_one _ _ _ _ c.over-stack.ensures.empty c.over-stack.ensures.places c.keep.ensures.kept) c.many-moves.ensures,
+  c.keep.ensures.room.places ∙ ap length c.over-stack.ensures.lent,
+  counted_first _ _ _ _ _ (kept_one _ _ _ _ c.over-stack.ensures.empty (ap length c.over-stack.ensures.lent) c.keep.ensures.kept) c.many-moves.ensures,
 )
 
 pub next-requires-clause-owed : goal.next-requires-clause-owed

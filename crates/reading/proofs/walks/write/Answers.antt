@@ -1,13 +1,13 @@
-use Rattle.std.proofs.Common.{refl, ◌∙◌}
+use Rattle.std.proofs.Common.{length, refl, ap, ◌∙◌}
 use Rattle.reading.specs.declared.walks.Behind.TheVariants.{Part}
 use Rattle.reading.proofs.Passing.{kept_one, part_first, part_room, part_more, part_all}
 use Rattle.reading.proofs.walks.write.Goals as goal
 
 pub loop-behind-init : goal.loop-behind-init
 loop-behind-init c = (
-  c.keep.ensures.room.places ∙ c.over-stack.ensures.places,
+  c.keep.ensures.room.places ∙ ap length c.over-stack.ensures.lent,
   c.put-at.auto.strip,
-  part_first _ _ _ _ _ _ (Part 129) _ _ (kept_one _ _ _ _ c.over-stack.ensures.empty c.over-stack.ensures.places c.keep.ensures.kept) refl c.put-at.ensures.begins c.requires.room c.put-at.ensures.written,
+  part_first _ _ _ _ _ _ (Part 129) _ _ (kept_one _ _ _ _ c.over-stack.ensures.empty (ap length c.over-stack.ensures.lent) c.keep.ensures.kept) refl c.put-at.ensures.begins c.requires.room c.put-at.ensures.written,
 )
 
 pub put-at-requires-in-Some-clause-some : goal.put-at-requires-in-Some-clause-some

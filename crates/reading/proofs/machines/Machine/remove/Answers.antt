@@ -8,14 +8,14 @@ use Rattle.reading.proofs.machines.Machine.remove.Goals as goal
 pub returns-in_default-clause-moved : goal.returns-in_default-clause-moved
 returns-in_default-clause-moved g c room ls =
     let m = c.args.self.now in
-    not_allowed (remove_none (grammar_of m) (first_of g.W.Word.tells m) (stacked c.args.second.now) ls (end_top c.in_default.ensures.0 (c.in_default.ensures.1 ∙ ap (λ x. x ∷ c.in_default.ensures.0) (omega arith))))
+    not_allowed (remove_none (grammar_of m) (first_of g.W.Word.tells m) (stacked c.args.second.now) ls (end_top c.in_default.ensures.top.0 (c.in_default.ensures.top.1 ∙ ap (λ x. x ∷ c.in_default.ensures.top.0) (omega arith))))
 
 pub returns-in_default-2-clause-moved : goal.returns-in_default-2-clause-moved
 returns-in_default-2-clause-moved g c room ls =
     let m = c.args.self.now in
-    not_allowed (remove_none (grammar_of m) (first_of g.W.Word.tells m) (stacked c.args.second.now) ls (other _ _ c.in-Some-1-to-255.ensures.1 (search (rules, arith))))
+    not_allowed (remove_none (grammar_of m) (first_of g.W.Word.tells m) (stacked c.args.second.now) ls (other _ _ c.in-Some-1-to-255.ensures.top.1 (search (rules, arith))))
 
 pub returns-in_default-3-clause-moved : goal.returns-in_default-3-clause-moved
 returns-in_default-3-clause-moved g c room ls =
     let m = c.args.self.now in
-    not_allowed (remove_none (grammar_of m) (first_of g.W.Word.tells m) (stacked c.args.second.now) ls (nothing (MatchOption-at_none _ _ c.in_default.is c.top.ensures)))
+    not_allowed (remove_none (grammar_of m) (first_of g.W.Word.tells m) (stacked c.args.second.now) ls (nothing (MatchOption-at_none _ _ c.in_default.is c.top.ensures.none)))
