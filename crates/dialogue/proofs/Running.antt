@@ -12,7 +12,7 @@ use Rattle.dialogue.specs.declared.calls.Call.{Call}
 use Rattle.dialogue.specs.declared.calls.Call.TheVariants.{Press, RubOut, Lit, Whole, Reading}
 use Rattle.dialogue.specs.declared.calls.Answer.{Answer}
 use Rattle.dialogue.specs.declared.calls.Answer.TheVariants.{Items, Keys, Yes, Moves, Refused}
-use Rattle.dialogue.specs.Runs.{RunState, run_state, CallLaw, RunLaw, call_at, answer_at}
+use Rattle.dialogue.specs.Runs.{RunState, CallLaw, RunLaw, call_at, answer_at}
 use Rattle.dialogue.proofs.Chaining.{Chain, none, more}
 
 -- an answer that gives something is no refusal

@@ -19,7 +19,7 @@ use Rattle.language.proofs.Members.{all_among}
 use Rattle.language.proofs.Pigeonhole.{no_more}
 use Rattle.rulebook.specs.Sets.{has, key_number, many}
 use Rattle.rulebook.specs.declared.faults.Fault.{Fault}
-use Rattle.rulebook.specs.declared.faults.Fault.TheVariants.{DraftFull, DarkWord, ChartFull}
+use Rattle.rulebook.specs.declared.faults.Fault.TheVariants.{DarkWord, ChartFull}
 use Rattle.rulebook.specs.declared.sets.SymbolSet.{SymbolSet}
 use Rattle.soundbook.specs.Sounds.{sound_meaning}
 use Rattle.wording.specs.declared.pressed.Matched.{Matched}

@@ -4,9 +4,8 @@
 
 use files::if_present;
 use keying::keyed;
-use std::fs;
-use std::io;
 use std::io::{ErrorKind, Read};
+use std::{fs, io};
 
 // More samples than there ever are.
 const MOST: u16 = 999;
