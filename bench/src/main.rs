@@ -8,7 +8,7 @@ use books::{Book, Case, cases};
 use std::io::Write;
 use std::process::{Command, Stdio};
 use std::time::Instant;
-use unit::Seen;
+use unit::PressAnswer;
 
 /// How many times each is measured; the fastest counts.
 const TURNS: usize = 11;
@@ -25,15 +25,15 @@ fn timed(words: usize, rounds: u32, run: impl Fn(u32)) -> f64 {
     (clock(rounds) - once) / (f64::from(rounds) * words as f64)
 }
 
-fn plain_rounds(book: &Book, keys: &[u16], count: u32) -> Vec<Seen> {
-    let mut seen = vec![Seen::default(); keys.len()];
+fn plain_rounds(book: &Book, keys: &[u16], count: u32) -> Vec<PressAnswer> {
+    let mut answers = vec![PressAnswer::default(); keys.len()];
     let mut draft = plain::Draft::open(book);
     for _ in 0..count {
-        for (key, place) in keys.iter().zip(&mut seen) {
+        for (key, place) in keys.iter().zip(&mut answers) {
             let items = draft
                 .press(plain::bit(*key))
                 .expect("a lit key whose items fit");
-            *place = Seen {
+            *place = PressAnswer {
                 items,
                 lit: draft.lit().count_ones(),
             };
@@ -42,7 +42,7 @@ fn plain_rounds(book: &Book, keys: &[u16], count: u32) -> Vec<Seen> {
             draft.rub_out();
         }
     }
-    seen
+    answers
 }
 
 /// What libmarpa tells of some words: nanoseconds a word, and how many keys it expects after each.
@@ -101,7 +101,7 @@ fn agreed(case: &Case) {
         plain_rounds(&case.book, &case.words, 1),
         "the plain version answers otherwise"
     );
-    let lit: Vec<u32> = proved.iter().map(|seen| seen.lit).collect();
+    let lit: Vec<u32> = proved.iter().map(|answer| answer.lit).collect();
     assert_eq!(
         lit,
         marpa_rounds(&case.book, &case.words, 1).lit,
@@ -143,11 +143,11 @@ fn measure(case: &Case, words: usize) {
     );
 }
 
-/// How long the first reading of the longest whole front takes.
+/// How long the first reading of the longest prefix that is a programme takes.
 fn measure_reading(case: &Case) {
     const COUNT: u32 = 20;
     let text = case.book.text();
-    let Some(read) = unit::readings(&text, &case.words, 1) else {
+    let Some(size) = unit::readings(&text, &case.words, 1) else {
         println!("| {} | none of the fronts is a programme | | |", case.name);
         return;
     };
@@ -160,8 +160,8 @@ fn measure_reading(case: &Case) {
     println!(
         "| {} | {} | {} | {:.0} (+{above:.0} %) |",
         case.name,
-        read.words,
-        read.moves,
+        size.words,
+        size.moves,
         nanos / 1000.0
     );
 }

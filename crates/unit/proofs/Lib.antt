@@ -1,0 +1,5 @@
+mod FirstKeys
+mod Keys
+mod Prefixes
+mod Rounds
+mod Writing

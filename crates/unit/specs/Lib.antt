@@ -1,0 +1,5 @@
+pub mod Numbers
+pub mod Presses
+pub mod Readings
+pub mod Rounds
+pub mod Steps
