@@ -1,10 +1,11 @@
 #!/usr/bin/env python3
-"""An outside reference for keyin, the draft, the first reading and replay: it shares no code with the product, and says
-what they must print.
+"""An outside reference for keyin, the draft, the first reading, replay and whole runs: it shares no code with the product,
+and says what they must print.
 
     reference.py keys DIR     what crates/keysamples must print of the samples in DIR
     reference.py drafts DIR   what crates/draftsamples must print of the runs in DIR
     reference.py replays DIR  what crates/replaysamples must print of the samples in DIR
+    reference.py runs DIR     what crates/runsamples must print of the samples in DIR
 """
 import os
 import re
@@ -287,20 +288,42 @@ def keyed(book_text, text):
     return said + ("whole%6d\n" % len(reading(draft, 12836)) if draft.whole() else "short\n")
 
 
-def state(draft):
+def lit_words(draft):
     keys = sorted(draft.lit())
-    end = "whole" if draft.whole() else "short"
-    return "     %d lit:%s, %s\n" % (len(keys), "".join(" %d" % k for k in keys), end)
+    return "%d lit:%s" % (len(keys), "".join(" %d" % k for k in keys))
+
+
+def whole_words(draft):
+    return "whole" if draft.whole() else "short"
+
+
+def state(draft):
+    return "     %s, %s\n" % (lit_words(draft), whole_words(draft))
+
+
+def reading_words(draft, moves):
+    """How many moves a reading has, and the depth: one more than six for each rule, of 2m + n moves."""
+    return "%d moves, depth %d" % (len(moves), 1 + 3 * (len(moves) - len(draft.words)))
 
 
 def reading_line(draft):
-    """The first reading on a strip of 40 places; its depth is one more than six for each rule, of 2m + n moves."""
+    """The first reading on a strip of 40 places."""
     try:
         moves = reading(draft, 40)
     except Fault as fault:
         return fault.line()
-    depth = 1 + 3 * (len(moves) - len(draft.words))
-    return "     %d moves, depth %d:%s\n" % (len(moves), depth, "".join(" %d" % n for n in moves))
+    return "     %s:%s\n" % (reading_words(draft, moves), "".join(" %d" % n for n in moves))
+
+
+def chart_lines(draft, places):
+    """The items in a chart of so many places, up to 50 of them, and what became of the other places."""
+    items = sorted((k, i, r, d) for k, column in enumerate(draft.columns) for r, d, i in column)
+    said = "".join("     item %d %d %d %d\n" % (r, d, i, k) for k, i, r, d in items[:50])
+    return said + left_line(draft.places - len(items), places - draft.places)
+
+
+def left_line(blank, before):
+    return "     %d blank, %d as before\n" % (blank, before)
 
 
 def told(draft, reads):
@@ -320,10 +343,104 @@ def run(book_text, text, number):
         said += told(draft, reads)
     if reads and not draft.whole():
         said += reading_line(draft)
-    items = sorted((k, i, r, d) for k, column in enumerate(draft.columns) for r, d, i in column)
-    for k, i, r, d in items[:50]:
-        said += "     item %d %d %d %d\n" % (r, d, i, k)
-    return said + "     %d blank, %d as before\n" % (draft.places - len(items), places - draft.places)
+    return said + chart_lines(draft, places)
+
+
+def text_of(*lines):
+    return b"".join(line.ljust(33) + b"\n" for line in lines)
+
+
+WORKS = text_of(
+    b"H   2   5   1   5",
+    b"R   1   1   2",
+    b"R   1   2   1   2",
+    b"R   2   2  33  35",
+    b"R   2   2  34  35",
+    b"R   2   4  36  35   1  37",
+    b"K  33   0press",
+    b"K  34   0hold",
+    b"K  35   1",
+    b"K  36   0repeat",
+    b"K  37   0end",
+)
+
+# what stands in a new place for a sound book
+SMALLEST = text_of(b"H   1   1   1   1", b"R   1   1  33", b"K  33   0a")
+
+# what stands in the place of an answer, and in a byte of a strip, before a run
+NO_ANSWER = Fault(33, 4, 999, 0)
+UNWRITTEN = 99
+
+
+def calls_of(book, kind, words):
+    """The calls that words name: the name of a call, or the set of keys that is pressed."""
+    calls, gathered = [], set()
+    for word in words:
+        if word in (b"-rub", b"-lit", b"-whole", b"-reading"):
+            calls.append(word)
+        elif kind == b"spelled":
+            calls.append(word_of(book, 0, word))
+        elif kind == b"pressed" and word.isdigit():
+            calls.append({int(word)})
+        elif kind == b"sets" and word == b"-press":
+            calls.append(gathered)
+            gathered = set()
+        elif kind == b"sets" and word.isdigit():
+            gathered.add(int(word))
+    return calls
+
+
+def answer_words(draft, strip, call):
+    """What a call answers; a reading writes its moves to the front of the strip."""
+    if call == b"-lit":
+        return lit_words(draft)
+    if call == b"-whole":
+        return whole_words(draft)
+    if call == b"-reading":
+        moves = reading(draft, len(strip))
+        strip[:len(moves)] = moves
+        return reading_words(draft, moves)
+    return "%d items" % (draft.rub_out() if call == b"-rub" else draft.press(call))
+
+
+def answer_line(draft, strip, call):
+    try:
+        return answer_words(draft, strip, call) + "\n"
+    except Fault as fault:
+        return fault.line()
+
+
+def strip_line(strip):
+    written = [at for at, byte in enumerate(strip, 1) if byte != UNWRITTEN]
+    front = strip[:max(written, default=0)][:60]
+    before = len(strip) - len(written)
+    return "     %d of %d bytes as before:%s\n" % (before, len(strip), "".join(" %d" % n for n in front))
+
+
+def place_line(book):
+    counts = (book.parts, book.key_count, book.start, book.many)
+    return "     place: parts %d, keys %d, start %d, rules %d\n" % counts
+
+
+def whole_run(book_text, text):
+    """A run of calls over a chart and a strip, by a book of any make. Where a text out of form, or the book of one that was to
+    be checked beforehand, is refused, no run is made; where the run's own check refuses the book, nothing is changed."""
+    words = text.split()
+    make, kind = words[:2]
+    places, length = [int(a) * 100 + int(b) for a, b in (words[2:4], words[4:6])]
+    strip, smallest = [UNWRITTEN] * length, Book(SMALLEST)
+    try:
+        book = Book(WORKS if make == b"works" else book_text)
+    except Fault as fault:
+        if fault.args[1] == 1 or make != b"text":
+            return fault.line()
+        answers = NO_ANSWER.line() * len(calls_of(smallest, kind, words[6:]))
+        return fault.line() + answers + left_line(0, places) + strip_line(strip) + place_line(smallest)
+    draft = Draft(book, places)
+    said = "".join(answer_line(draft, strip, call) for call in calls_of(book, kind, words[6:]))
+    # a run of a sound book is handed no place for one
+    place = smallest if make == b"run" else book
+    return said + chart_lines(draft, places) + strip_line(strip) + place_line(place)
 
 
 class Machine:
@@ -394,16 +511,21 @@ def replay(book_text, text):
     return said + "     %d and %d places zeroed\n" % (second, third)
 
 
+def content(path):
+    """The bytes of a file; a missing one counts as empty."""
+    return open(path, "rb").read() if os.path.exists(path) else b""
+
+
 def main():
     way, folder = sys.argv[1:]
     end, tell = {
         "keys": (".text", lambda book, text, _: keyed(book, text)),
         "drafts": (".steps", run),
         "replays": (".moves", lambda book, text, _: replay(book, text)),
+        "runs": (".calls", lambda book, text, _: whole_run(book, text)),
     }[way]
     for number, name in enumerate(sorted(n for n in os.listdir(folder) if n.endswith(end)), 1):
-        text = open(os.path.join(folder, name), "rb").read()
-        book = open(os.path.join(folder, name.replace(end, ".book")), "rb").read()
+        text, book = [content(os.path.join(folder, file)) for file in (name, name.replace(end, ".book"))]
         sys.stdout.write(name + "\n" + tell(book, text, number))
 
 
