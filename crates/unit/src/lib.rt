@@ -12,6 +12,8 @@ ghost use Rattle.unit.specs.Rounds.{RoundsSucceed, RoundsRefuse};
 mod failures;
 mod presses;
 mod readings;
+#[cfg(test)]
+mod tests;
 
 pub use failures::OUT_OF_MEMORY;
 use failures::number;
