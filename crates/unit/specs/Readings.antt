@@ -17,7 +17,7 @@ pub record IsLongest (g : Grammar) (keys : List ℕ) (n : ℕ) : Type 0 where
   pub longest : (m : ℕ) → n < m → m ≤ length keys → Programme g (first_words m keys) → ⊥
 
 -- The text is in form and its book sound, and a draft of 60,000 places accepts each key. The words are as many as the longest
--- prefix that is a programme has, and the moves as many as its first reading has; with no reading these are as they were.
+-- prefix that is a programme has, and the moves as many as its first reading has; with no reading the moves are as they were.
 pub record ReadingsSucceed (text keys : List ℕ) (count : ℕ) (old new : ReadingSize) : Type 0 where
   pub accepted : Accepted text
   pub presses : AcceptsKeys (rules text) 60000 keys (length keys)
