@@ -364,8 +364,17 @@ WORKS = text_of(
     b"K  37   0end",
 )
 
-# what stands in a new place for a sound book
+# a new place for a sound book, and the place that a run is handed
 SMALLEST = text_of(b"H   1   1   1   1", b"R   1   1  33", b"K  33   0a")
+PLACE = text_of(
+    b"H   1   3   1   3",
+    b"R   1   1  33",
+    b"R   1   1  34",
+    b"R   1   2   1  33",
+    b"K  33   0a",
+    b"K  34   0b",
+    b"K  35   0c",
+)
 
 # what stands in the place of an answer, and in a byte of a strip, before a run
 NO_ANSWER = Fault(33, 4, 999, 0)
@@ -428,19 +437,19 @@ def whole_run(book_text, text):
     words = text.split()
     make, kind = words[:2]
     places, length = [int(a) * 100 + int(b) for a, b in (words[2:4], words[4:6])]
-    strip, smallest = [UNWRITTEN] * length, Book(SMALLEST)
+    strip, place = [UNWRITTEN] * length, Book(PLACE)
     try:
         book = Book(WORKS if make == b"works" else book_text)
     except Fault as fault:
         if fault.args[1] == 1 or make != b"text":
             return fault.line()
-        answers = NO_ANSWER.line() * len(calls_of(smallest, kind, words[6:]))
-        return fault.line() + answers + left_line(0, places) + strip_line(strip) + place_line(smallest)
+        answers = NO_ANSWER.line() * len(calls_of(Book(SMALLEST), kind, words[6:]))
+        return fault.line() + answers + left_line(0, places) + strip_line(strip) + place_line(place)
     draft = Draft(book, places)
     said = "".join(answer_line(draft, strip, call) for call in calls_of(book, kind, words[6:]))
     # a run of a sound book is handed no place for one
-    place = smallest if make == b"run" else book
-    return said + chart_lines(draft, places) + strip_line(strip) + place_line(place)
+    left = place if make == b"run" else book
+    return said + chart_lines(draft, places) + strip_line(strip) + place_line(left)
 
 
 class Machine:

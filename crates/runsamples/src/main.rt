@@ -24,6 +24,16 @@ use wording::{Word, cut};
 // More samples than there ever are.
 const MOST: u16 = 999;
 
+// The text of the book that stands in the place before a run: not the smallest, as in a new place, nor that of any sample.
+const BEFORE_BOOK: &[u8] = b"\
+H   1   3   1   3                \n\
+R   1   1  33                    \n\
+R   1   1  34                    \n\
+R   1   2   1  33                \n\
+K  33   0a                       \n\
+K  34   0b                       \n\
+K  35   0c                       \n";
+
 // The book that a run is made by, of each make.
 #[derive(Clone, Copy)]
 enum Source<'t> {
@@ -83,7 +93,7 @@ fn tell_run<W: Word + Drop>(
     source: &Source,
     mut exchanges: Vec<Exchange<W>>,
 ) -> anyhow::Result<()> {
-    let mut place = smallest_book();
+    let mut place = sound_book(BEFORE_BOOK)?;
     let chart = vec![in rt.alloc(); BEFORE; sample.chart]?;
     let mut strip = vec![in rt.alloc(); UNWRITTEN; sample.strip]?;
     let RunResult { chart, checked } = run_by(
